@@ -1,0 +1,5 @@
+-- Laws that belong to no one function.
+pub mod StatementsLaws
+pub mod CheckLaws
+pub mod AcceptedLaws
+pub mod OneResultLaws

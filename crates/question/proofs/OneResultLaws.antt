@@ -1,0 +1,30 @@
+-- Each public contract of this crate leaves one result. One law serves them all: two results that equal the same value are equal.
+use mathlib.Core.Path.{_≡_, sym, _∙_}
+use Rattle.question.specs.OneResult.{OneResult}
+use Rattle.question.proofs.questions.Question.empty.Reads as empty
+use Rattle.question.proofs.statements.Statement.tag.Reads as tag
+use Rattle.question.proofs.admissions.name_test.Reads as name-test
+use Rattle.question.proofs.admissions.admit.Reads as admit
+use Rattle.question.proofs.checks.check.Reads as check
+use Rattle.question.proofs.checks.terms.Reads as terms
+
+pub both : {A : Type 0} {x y z : A} → x ≡ z → y ≡ z → x ≡ y
+both p q = p ∙ sym q
+
+empty-one : OneResult empty.Learnt
+empty-one κs given x y s t = both
+
+tag-one : OneResult tag.Learnt
+tag-one κs given x y s t = both
+
+name-test-one : OneResult name-test.Learnt
+name-test-one κs given x y s t = both
+
+admit-one : OneResult admit.Learnt
+admit-one κs given x y s t = both
+
+check-one : OneResult check.Learnt
+check-one κs given x y s t = both
+
+terms-one : OneResult terms.Learnt
+terms-one κs given x y s t = both

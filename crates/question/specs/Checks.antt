@@ -1,0 +1,48 @@
+-- The check of a table that is handed in, and what it means that a question is accepted.
+use Prim.Native.Nat.{ℕ, suc, _+_, _≤_}
+use mathlib.Core.Bool.{Bool, _||_, cond}
+use mathlib.Core.List.{List, [], _∷_}
+use mathlib.Core.Path.{_≡_}
+use lib.Dec.{ltb}
+use Rattle.question.specs.declared.statements.Statement.{Statement}
+use Rattle.question.specs.declared.questions.Question.{Question}
+use Rattle.question.specs.declared.admissions.Admission.{Admission}
+use Rattle.question.specs.declared.admissions.Admission.the-variants.{Admitted, Undeclared, TooManyTerms}
+use Rattle.question.specs.declared.admissions.NameTest.the-variants.{Declared}
+use Rattle.question.specs.declared.checks.TableCheck.{TableCheck}
+use Rattle.question.specs.declared.checks.TableCheck.the-variants.{Accepted, Refused}
+use Rattle.question.specs.Limits.{maxElements, maxSets, maxStatements, maxTerms}
+use Rattle.question.specs.Refusals.{refusal, tooManyNames, nameNotDeclared, tooManyStatements, tooManyTerms}
+use Rattle.question.specs.Questions.{statements, witness, termsOf}
+use Rattle.question.specs.Admissions.{nameTest, admission}
+
+-- what follows where a statement is admitted, else its refusal at the index i
+abbrev pub admittedThen : ℕ → Admission → TableCheck → TableCheck
+admittedThen i Admitted rest = rest
+admittedThen i (Undeclared at) rest = Refused (refusal nameNotDeclared i)
+admittedThen i TooManyTerms rest = Refused (refusal tooManyTerms i)
+
+-- statement by statement from the index i on, where t terms stand
+unfoldable pub statementsChecked : ℕ → ℕ → ℕ → ℕ → List Statement → TableCheck
+statementsChecked E S i t [] = Accepted
+statementsChecked E S i t (s ∷ ss) = admittedThen i (admission E S t s) (statementsChecked E S (suc i) (t + witness s) ss)
+
+-- 5, then 7 (place 0), then statement by statement 6, 8 (place its index)
+unfoldable pub checked : Question → TableCheck
+checked q =
+    cond (ltb maxElements (q .elements) || ltb maxSets (q .sets)) (Refused (refusal tooManyNames 0))
+    (cond (ltb maxStatements (q .count)) (Refused (refusal tooManyStatements 0))
+    (statementsChecked (q .elements) (q .sets) 0 (q .elements) (statements q)))
+
+-- the names of every statement are declared
+abbrev pub AllDeclared : ℕ → ℕ → List Statement → Type 0
+AllDeclared E S [] = Unit {0}
+AllDeclared E S (s ∷ ss) = (nameTest E S s ≡ Declared) × AllDeclared E S ss
+
+-- an accepted question keeps the limits and names only what it declares
+pub record IsAccepted (q : Question) : Type 0 where
+  pub few-elements : q .elements ≤ maxElements
+  pub few-sets : q .sets ≤ maxSets
+  pub few-statements : q .count ≤ maxStatements
+  pub all-declared : AllDeclared (q .elements) (q .sets) (statements q)
+  pub few-terms : termsOf q ≤ maxTerms

@@ -1,0 +1,10 @@
+-- The definitions that the contracts cite, in the order of the data's way.
+pub mod Limits
+pub mod Refusals
+pub mod Statements
+pub mod Questions
+pub mod Admissions
+pub mod Checks
+pub mod Masks
+pub mod Meaning
+pub mod OneResult

@@ -1,0 +1,35 @@
+-- A question's statements and its terms.
+use Prim.Native.Nat.{ℕ, _+_}
+use mathlib.Core.Bool.{cond}
+use mathlib.Core.List.{List, [], _∷_, map}
+use lib.ListN.{take, replicate}
+use Rattle.question.specs.declared.statements.Statement.{Statement}
+use Rattle.question.specs.declared.statements.Statement.the-variants.{ElementsEqual}
+use Rattle.question.specs.declared.questions.Record.{Record}
+use Rattle.question.specs.declared.questions.Question.{Question}
+use Rattle.question.specs.Limits.{maxStatements}
+use Rattle.question.specs.Statements.{makesWitness}
+
+-- "0 = 0" of element names, which stands in the unused records of a table
+abbrev pub idle : Record
+idle = record { statement = ElementsEqual (record { 0 = 0 }) (record { 0 = 0 }) }
+
+-- no names and no statements
+abbrev pub emptyQuestion : Question
+emptyQuestion = record { elements = 0; sets = 0; count = 0; table = replicate maxStatements idle }
+
+-- the statements in order: entries past the count are ignored
+unfoldable pub statements : Question → List Statement
+statements q = map (λ r. r .statement) (take (q .count) (q .table))
+
+-- how many witnesses a statement makes, and how many some statements make
+unfoldable pub witness : Statement → ℕ
+witness s = cond (makesWitness s) 1 0
+
+unfoldable pub witnesses : List Statement → ℕ
+witnesses [] = 0
+witnesses (s ∷ ss) = witness s + witnesses ss
+
+-- T, the number of terms: the element names, then one witness for each x ≠ y
+unfoldable pub termsOf : Question → ℕ
+termsOf q = q .elements + witnesses (statements q)

@@ -1,0 +1,99 @@
+// The check of a question that is handed in as a table, and the number of its terms.
+use crate::admissions::Admission;
+use crate::admissions::admit;
+use crate::questions::Question;
+use crate::refusals::Refusal;
+use crate::statements::Statement;
+ghost use mathlib.Core.Path.{_≡_};
+ghost use Prim.Native.Nat.{_≤_};
+ghost use Rattle.question.specs.Limits.{maxStatements};
+ghost use Rattle.question.specs.Refusals.{refusal};
+ghost use Rattle.question.specs.Questions.{statements, witness, termsOf};
+ghost use Rattle.question.specs.Checks.{statementsChecked, checked};
+
+pub enum TableCheck {
+    Accepted,
+    Refused(Refusal),
+}
+
+fn refuse(number: u8, place: usize) -> TableCheck
+    ensures { λ r. ⌜ r ≡ TableCheck.Refused (refusal number place) ⌝ }
+{
+    let refusal = Refusal {
+        number: number,
+        place: place,
+    };
+    TableCheck::Refused(refusal)
+}
+
+// How many witnesses a statement makes.
+fn witness_of(s: Statement) -> usize
+    ensures { λ r. ⌜ r ≡ witness s ⌝ }
+{
+    let tag = s.tag();
+    if tag == 0x21 { 1 } else { 0 }
+}
+
+// Statement by statement: 6, then 8, at its index.
+fn check_statements(q: Question) -> TableCheck
+    requires { ⌜ q .count ≤ maxStatements ⌝ }
+    ensures { λ r. ⌜ r ≡ statementsChecked (q .elements) (q .sets) 0 (q .elements) (statements q) ⌝ }
+{
+    let elements = q.elements;
+    let sets = q.sets;
+    let count = q.count;
+    let mut terms = elements as usize;
+    let mut i: usize = 0;
+    while i < count {
+        let entry = q.table[i];
+        let s = entry.statement;
+        match admit(s, elements, sets, terms) {
+            Admission::Undeclared(_) => {
+                return refuse(Refusal::NAME_NOT_DECLARED, i);
+            }
+            Admission::TooManyTerms => {
+                return refuse(Refusal::TOO_MANY_TERMS, i);
+            }
+            Admission::Admitted => {}
+        }
+        terms += witness_of(s);
+        i += 1;
+    }
+    TableCheck::Accepted
+}
+
+// The check of a table handed in: 5, then 7, at place 0; then statement by statement.
+pub fn check(q: Question) -> TableCheck
+    ensures { λ r. ⌜ r ≡ checked q ⌝ }
+{
+    if Question::MAX_ELEMENTS < q.elements {
+        return refuse(Refusal::TOO_MANY_NAMES, 0);
+    }
+    if Question::MAX_SETS < q.sets {
+        return refuse(Refusal::TOO_MANY_NAMES, 0);
+    }
+    if Question::MAX_STATEMENTS < q.count {
+        return refuse(Refusal::TOO_MANY_STATEMENTS, 0);
+    }
+    check_statements(q)
+}
+
+// T, the number of terms: the element names, and a witness for each statement x ≠ y before the count.
+pub fn terms(q: Question) -> usize
+    ensures { λ r. ⌜ r ≡ termsOf q ⌝ }
+{
+    let elements = q.elements;
+    let count = q.count;
+    let mut total = elements as usize;
+    let mut i: usize = 0;
+    while i < Question::MAX_STATEMENTS {
+        if count <= i {
+            break;
+        }
+        let entry = q.table[i];
+        let s = entry.statement;
+        total += witness_of(s);
+        i += 1;
+    }
+    total
+}

@@ -1,0 +1,31 @@
+// A refusal: its number in document 01, and the place that the number speaks of.
+pub struct Refusal {
+    pub number: u8,
+    pub place: usize,
+}
+
+impl Refusal {
+    pub const DATA_ENDS: u8 = 1;
+
+    pub const TAG_UNKNOWN: u8 = 2;
+
+    pub const TAG_OUT_OF_PLACE: u8 = 3;
+
+    pub const WRONG_LENGTH: u8 = 4;
+
+    pub const TOO_MANY_NAMES: u8 = 5;
+
+    pub const NAME_NOT_DECLARED: u8 = 6;
+
+    pub const TOO_MANY_STATEMENTS: u8 = 7;
+
+    pub const TOO_MANY_TERMS: u8 = 8;
+
+    pub const BYTES_AFTER_END: u8 = 9;
+
+    pub const BUFFER_TOO_SHORT: u8 = 10;
+
+    pub const BAD_MODEL: u8 = 11;
+
+    pub const BAD_ROW: u8 = 12;
+}
