@@ -1,5 +1,6 @@
 -- Laws that belong to no one function.
 pub mod StatementsLaws
 pub mod CheckLaws
+pub mod EverywhereLaws
 pub mod AcceptedLaws
 pub mod OneResultLaws

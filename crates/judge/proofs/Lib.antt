@@ -1,0 +1,5 @@
+-- Laws that belong to no one function.
+pub mod MaskLaws
+pub mod JudgedLaws
+pub mod Verdicts
+pub mod OneResultLaws

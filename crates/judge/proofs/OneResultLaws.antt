@@ -1,0 +1,7 @@
+-- The contract of the judge leaves one result.
+use Rattle.question.specs.OneResult.{OneResult}
+use Rattle.question.proofs.OneResultLaws.{both}
+use Rattle.judge.proofs.judging.judge.Reads as judge
+
+judge-one : OneResult judge.Learnt
+judge-one κs given x y s t = both

@@ -1,0 +1,131 @@
+-- What a judgement means: yes exactly if question and model are sound and every statement holds; no at the first statement that fails.
+use Prim.Native.Nat.{ℕ, zero, suc, _+_, _<_, zero-le}
+use mathlib.Core.Path.{_≡_, refl, sym, ap, subst, _∙_}
+use mathlib.Core.Bool.{Bool, true, false, _&&_, cond}
+use mathlib.Core.List.{List, [], _∷_}
+use mathlib.Core.Logic.{_↔_}
+use native.Mathlib.Omega.{arith}
+use borrow.Author.Tests.{ltb-true}
+use lib.Dec.{T, leb, ltb}
+use lib.ListN.{length, getD}
+use Rattle.question.specs.declared.statements.Statement.{Statement}
+use Rattle.question.specs.declared.questions.Question.{Question}
+use Rattle.question.specs.declared.checks.TableCheck.{TableCheck}
+use Rattle.question.specs.declared.checks.TableCheck.the-variants.{Accepted, Refused as TableRefused}
+use Rattle.question.specs.declared.refusals.Refusal.{Refusal}
+use Rattle.question.specs.Limits.{maxTerms}
+use Rattle.question.specs.Refusals.{refusal, badModel}
+use Rattle.question.specs.Questions.{idle, statements}
+use Rattle.question.specs.Checks.{checked, IsAccepted}
+use Rattle.question.specs.Meaning.{Assignment, IsAssignment, everywhere, holds, AllHold}
+use Rattle.question.proofs.AcceptedLaws.{accepted}
+use Rattle.question.proofs.EverywhereLaws.{everywhere-at}
+use Rattle.judge.specs.declared.models.Model.{Model}
+use Rattle.judge.specs.declared.judging.Judgement.{Judgement}
+use Rattle.judge.specs.declared.judging.Judgement.the-variants.{Yes, No, Refused}
+use Rattle.judge.specs.Models.{assigned, elementsInside, masksInside, isModel}
+use Rattle.judge.specs.Judgements.{firstFailing, modelJudged, acceptedThen, judged}
+
+no-yes : {A : Type 0} {i : ℕ} → No i ≡ Yes → A
+no-yes e = let z : _≡_ {A = ℕ} 0 1 = cc in absurd (omega arith)
+
+refused-yes : {A : Type 0} {r : Refusal} → Refused r ≡ Yes → A
+refused-yes e = let z : _≡_ {A = ℕ} 0 1 = cc in absurd (omega arith)
+
+yes-no : {A : Type 0} {i : ℕ} → Yes ≡ No i → A
+yes-no e = no-yes (sym e)
+
+refused-no : {A : Type 0} {r : Refusal} {i : ℕ} → Refused r ≡ No i → A
+refused-no e = let z : _≡_ {A = ℕ} 0 1 = cc in absurd (omega arith)
+
+-- the statement at the index i is the first that fails
+pub record FirstToFail (A : Assignment) (ss : List Statement) (i : ℕ) : Type 0 where
+  pub within : i < length ss
+  pub fails : holds A (getD ss i (idle .statement)) ≡ false
+  pub earlier : (k : ℕ) → k < i → holds A (getD ss k (idle .statement)) ≡ true
+
+module _ (A : Assignment) where
+  all-hold : (i : ℕ) (ss : List Statement) → firstFailing (holds A) i ss ≡ Yes → AllHold A ss
+  unfolding firstFailing
+  all-hold i [] e = tt
+  all-hold i (s ∷ ss) e = go (holds A s) refl e (all-hold (suc i) ss)
+    where
+      go : (b : Bool) → holds A s ≡ b → cond b (firstFailing (holds A) (suc i) ss) (No i) ≡ Yes → (firstFailing (holds A) (suc i) ss ≡ Yes → AllHold A ss) → AllHold A (s ∷ ss)
+      go true p e k = (rw p tt, k e)
+      go false p e k = no-yes e
+
+  hold-all : (i : ℕ) (ss : List Statement) → AllHold A ss → firstFailing (holds A) i ss ≡ Yes
+  unfolding firstFailing
+  hold-all i [] h = refl
+  hold-all i (s ∷ ss) h = go (holds A s) (h .0) (hold-all (suc i) ss (h .1))
+    where
+      go : (b : Bool) → T b → firstFailing (holds A) (suc i) ss ≡ Yes → cond b (firstFailing (holds A) (suc i) ss) (No i) ≡ Yes
+      go true t k = k
+      go false t k = absurd t
+
+  -- the walk begins at the index i
+  first-of : (i : ℕ) (ss : List Statement) (k : ℕ) → firstFailing (holds A) i ss ≡ No k → (j : ℕ) × (k ≡ i + j) × FirstToFail A ss j
+  unfolding firstFailing
+  first-of i [] k e = yes-no e
+  first-of i (s ∷ ss) k e = go (holds A s) refl e (first-of (suc i) ss k)
+    where
+      later : (j : ℕ) → holds A s ≡ true → k ≡ suc i + j → FirstToFail A ss j → (j : ℕ) × (k ≡ i + j) × FirstToFail A (s ∷ ss) j
+      later j p q f = (suc j, omega arith, record { within = omega (arith, f .within); fails = f .fails; earlier = earlier })
+        where
+          earlier : (h : ℕ) → h < suc j → holds A (getD (s ∷ ss) h (idle .statement)) ≡ true
+          earlier zero l = p
+          earlier (suc h) l = f .earlier h (omega arith)
+
+      go : (b : Bool) → holds A s ≡ b → cond b (firstFailing (holds A) (suc i) ss) (No i) ≡ No k →
+          (firstFailing (holds A) (suc i) ss ≡ No k → (j : ℕ) × (k ≡ suc i + j) × FirstToFail A ss j) → (j : ℕ) × (k ≡ i + j) × FirstToFail A (s ∷ ss) j
+      go true p e r = let l = r e in later (l .0) p (l .1) (l .2)
+      go false p e r = let same : i ≡ k = cc in (0, omega arith, record { within = omega arith; fails = p; earlier = λ h l. absurd (omega arith) })
+
+-- a model is an assignment
+pub model-assigns : (E S : ℕ) (m : Model) → isModel E S m ≡ true → IsAssignment E (assigned m)
+unfolding isModel elementsInside
+model-assigns E S m h = record { large-enough = zero-le; within = λ a l. ltb-true _ _ (everywhere-at (λ b. ltb (getD (m .elements) b 0) (m .size)) E inside (a .0) l) }
+  where
+    second : (a b c : Bool) → a && (b && c) ≡ true → b ≡ true
+    second true true c e = refl
+    second true false c e = e
+    second false b c e = absurd (subst T (sym e) tt)
+
+    inside : everywhere E (λ b. ltb (getD (m .elements) b 0) (m .size)) ≡ true
+    inside = second (leb (m .size) maxTerms) (elementsInside E m) (masksInside S m) h
+
+module _ (q : Question) (m : Model) where
+  -- the question is accepted, the model is one for its names, and every statement holds
+  pub record Sound : Type 0 where
+    pub question-accepted : IsAccepted q
+    pub model : isModel (q .elements) (q .sets) m ≡ true
+    pub all-hold : AllHold (assigned m) (statements q)
+
+  sound : judged q m ≡ Yes → Sound
+  unfolding judged modelJudged
+  sound e = go (checked q) (isModel (q .elements) (q .sets) m) refl refl e
+    where
+      go : (t : TableCheck) (b : Bool) → checked q ≡ t → isModel (q .elements) (q .sets) m ≡ b →
+          acceptedThen t (cond b (firstFailing (holds (assigned m)) 0 (statements q)) (Refused (refusal badModel 0))) ≡ Yes → Sound
+      go (TableRefused r) b p g e = refused-yes e
+      go Accepted false p g e = refused-yes e
+      go Accepted true p g e = record { question-accepted = accepted q .0 p; model = g; all-hold = all-hold (assigned m) 0 (statements q) e }
+
+  judged-yes : Sound → judged q m ≡ Yes
+  unfolding judged modelJudged
+  judged-yes h = rw (accepted q .1 (h .question-accepted), h .model) (hold-all (assigned m) 0 (statements q) (h .all-hold))
+
+  pub yes-means : (judged q m ≡ Yes) ↔ Sound
+  yes-means = (sound, judged-yes)
+
+  pub no-means : (i : ℕ) → judged q m ≡ No i → FirstToFail (assigned m) (statements q) i
+  unfolding judged modelJudged
+  no-means i e = go (checked q) (isModel (q .elements) (q .sets) m) e
+    where
+      go : (t : TableCheck) (b : Bool) → acceptedThen t (cond b (firstFailing (holds (assigned m)) 0 (statements q)) (Refused (refusal badModel 0))) ≡ No i → FirstToFail (assigned m) (statements q) i
+      go (TableRefused r) b e = refused-no e
+      go Accepted false e = refused-no e
+      go Accepted true e =
+          let f = first-of (assigned m) 0 (statements q) i e in
+          let same : f .0 ≡ i = omega (arith, f .1) in
+          subst (FirstToFail (assigned m) (statements q)) same (f .2)

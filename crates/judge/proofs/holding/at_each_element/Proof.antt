@@ -1,0 +1,48 @@
+-- `at_each_element` tests each domain element in turn: all that were passed meet the test, and the first that does not decides.
+use Prim.Native.Nat.{_-_, _≤_}
+use mathlib.Core.Path.{_≡_, sym, _∙_}
+use mathlib.Core.Bool.{true}
+use native.Mathlib.Omega.{arith}
+use borrow.Author.Needs.{needs}
+use borrow.Author.Tests.{not-true, not-false}
+use Rattle.question.specs.Meaning.{everywhere}
+use Rattle.question.proofs.EverywhereLaws.{everywhere-none, everywhere-more, everywhere-all, everywhere-fails}
+use Rattle.judge.specs.Models.{assigned}
+use Rattle.judge.specs.Elements.{atElement}
+use Rattle.judge.proofs.holding.at_each_element.Statement.{statement}
+use Rattle.judge.proofs.holding.at_each_element.Tie as tie
+
+abbrev Inv-loop : tie.InvT-loop
+Inv-loop m s n d₀ d = (d ≤ n) × (everywhere d (atElement (assigned m) s) ≡ true)
+
+abbrev μ-loop : tie.MeasureT-loop
+μ-loop m s n d₀ d = n - d
+
+returns : tie.Need-returns Inv-loop μ-loop
+returns c =
+    let l = c .before .before .before in
+    sym (everywhere-fails _ (l .before .args .m .size) (l .loop .d) (c .before .before .loop-test .taken) (sym (c .before .at-element .ensures) ∙ not-true _ (c .if1 .taken)))
+
+loop-again : tie.Need-loop-again Inv-loop μ-loop
+loop-again c =
+    let l = c .before .before .before in
+    (omega arith, everywhere-more _ (l .loop .d) (l .loop .inv .1) (sym (c .before .at-element .ensures) ∙ not-false _ (c .if1 .left)))
+
+returns-2 : tie.Need-returns-2 Inv-loop μ-loop
+returns-2 c =
+    let l = c .before in
+    sym (everywhere-all _ (l .before .args .m .size) (l .loop .d) (l .loop .inv .0) (c .loop-test .left) (l .loop .inv .1))
+
+pub at-each-element-spec : {M : Type 1} → statement M
+at-each-element-spec =
+    tie.close
+    (tie.spec
+    Inv-loop
+    μ-loop
+    (λ c. (search needs, everywhere-none _))
+    (λ c κs. search needs)
+    returns
+    (λ c. search needs)
+    (λ c. search needs)
+    loop-again
+    returns-2)

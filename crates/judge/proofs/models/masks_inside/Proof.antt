@@ -1,0 +1,57 @@
+-- `masks_inside` tests the mask of each domain element in turn: all that were passed are below the bound, and the first that is not decides.
+use Prim.Native.Nat.{_-_, _^_, _≤_}
+use mathlib.Core.Path.{_≡_, sym, ap, _∙_}
+use mathlib.Core.Bool.{true}
+use native.Mathlib.Omega.{arith}
+use borrow.Author.Needs.{needs}
+use borrow.Author.Tests.{not-true, not-false}
+use lib.Dec.{ltb}
+use lib.ListN.{getD}
+use Rattle.question.specs.Meaning.{everywhere}
+use Rattle.question.proofs.EverywhereLaws.{everywhere-none, everywhere-more, everywhere-all, everywhere-fails}
+use Rattle.judge.specs.Models.{masksInside}
+use Rattle.judge.proofs.models.masks_inside.Statement.{statement}
+use Rattle.judge.proofs.models.masks_inside.Tie as tie
+
+abbrev Inv-loop : tie.InvT-loop
+Inv-loop m sets n d₀ d = (d ≤ n) × (everywhere d (λ e. ltb (getD (m .masks) e 0) (2 ^ sets)) ≡ true)
+
+abbrev μ-loop : tie.MeasureT-loop
+μ-loop m sets n d₀ d = n - d
+
+-- the test at a turn is that of the element's mask
+tested : (c : tie.After-below Inv-loop μ-loop) → let l = c .before .before .before in
+    ltb (getD (l .before .args .m .masks) (l .loop .d) 0) (2 ^ l .before .args .sets) ≡ c .below .result
+tested c = sym (c .below .ensures ∙ ap (λ k. ltb k (2 ^ c .before .before .before .before .args .sets)) (c .before .mask .ensures))
+
+returns : tie.Need-returns Inv-loop μ-loop
+unfolding masksInside
+returns c =
+    let l = c .before .before .before .before in
+    sym (everywhere-fails _ (l .before .args .m .size) (l .loop .d) (c .before .before .before .loop-test .taken) (tested (c .before) ∙ not-true _ (c .if1 .taken)))
+
+loop-again : tie.Need-loop-again Inv-loop μ-loop
+loop-again c =
+    let l = c .before .before .before .before in
+    (omega arith, everywhere-more _ (l .loop .d) (l .loop .inv .1) (tested (c .before) ∙ not-false _ (c .if1 .left)))
+
+returns-2 : tie.Need-returns-2 Inv-loop μ-loop
+unfolding masksInside
+returns-2 c =
+    let l = c .before in
+    sym (everywhere-all _ (l .before .args .m .size) (l .loop .d) (l .loop .inv .0) (c .loop-test .left) (l .loop .inv .1))
+
+pub masks-inside-spec : {M : Type 1} → statement M
+masks-inside-spec =
+    tie.close
+    (tie.spec
+    Inv-loop
+    μ-loop
+    (λ c. (search needs, everywhere-none _))
+    (λ c κs. search needs)
+    (λ c κs. search needs)
+    returns
+    (λ c. search needs)
+    (λ c. search needs)
+    loop-again
+    returns-2)

@@ -1,0 +1,34 @@
+-- What the judge says of a question and a model.
+use Prim.Native.Nat.{ℕ, suc}
+use mathlib.Core.Bool.{Bool, cond}
+use mathlib.Core.List.{List, [], _∷_}
+use Rattle.question.specs.declared.statements.Statement.{Statement}
+use Rattle.question.specs.declared.questions.Question.{Question}
+use Rattle.question.specs.declared.checks.TableCheck.{TableCheck}
+use Rattle.question.specs.declared.checks.TableCheck.the-variants.{Accepted, Refused as TableRefused}
+use Rattle.question.specs.Refusals.{refusal, badModel}
+use Rattle.question.specs.Questions.{statements}
+use Rattle.question.specs.Checks.{checked}
+use Rattle.question.specs.Meaning.{holds}
+use Rattle.judge.specs.declared.models.Model.{Model}
+use Rattle.judge.specs.declared.judging.Judgement.{Judgement}
+use Rattle.judge.specs.declared.judging.Judgement.the-variants.{Yes, No, Refused}
+use Rattle.judge.specs.Models.{assigned, isModel}
+
+-- yes if f holds of every statement, else the index of the first of which it does not; the first statement has the index i
+unfoldable pub firstFailing : (Statement → Bool) → ℕ → List Statement → Judgement
+firstFailing f i [] = Yes
+firstFailing f i (s ∷ ss) = cond (f s) (firstFailing f (suc i) ss) (No i)
+
+-- the judgement of an accepted question: 11 at place 0 for a bad model, then statement by statement
+unfoldable pub modelJudged : Question → Model → Judgement
+modelJudged q m = cond (isModel (q .elements) (q .sets) m) (firstFailing (holds (assigned m)) 0 (statements q)) (Refused (refusal badModel 0))
+
+-- what follows where the table is accepted, else its refusal
+abbrev pub acceptedThen : TableCheck → Judgement → Judgement
+acceptedThen Accepted next = next
+acceptedThen (TableRefused r) next = Refused r
+
+-- the table's refusals, then the judgement of the model
+unfoldable pub judged : Question → Model → Judgement
+judged q m = acceptedThen (checked q) (modelJudged q m)

@@ -1,0 +1,4 @@
+-- The definitions that the contracts cite.
+pub mod Models
+pub mod Elements
+pub mod Judgements
