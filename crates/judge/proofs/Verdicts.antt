@@ -5,8 +5,7 @@ use mathlib.Core.Bool.{Bool, true, false, _&&_, cond}
 use mathlib.Core.List.{List, [], _∷_}
 use mathlib.Core.Logic.{_↔_}
 use native.Mathlib.Omega.{arith}
-use borrow.Author.Tests.{ltb-true}
-use lib.Dec.{T, leb, ltb}
+use lib.Dec.{T, leb, ltb, ltb→lt}
 use lib.ListN.{length, getD}
 use Rattle.question.specs.declared.statements.Statement.{Statement}
 use Rattle.question.specs.declared.questions.Question.{Question}
@@ -19,6 +18,7 @@ use Rattle.question.specs.Questions.{idle, statements}
 use Rattle.question.specs.Checks.{checked, IsAccepted}
 use Rattle.question.specs.Meaning.{Assignment, IsAssignment, everywhere, holds, AllHold}
 use Rattle.question.proofs.AcceptedLaws.{accepted}
+use Rattle.question.proofs.TestLaws.{T-true, and-left, and-right}
 use Rattle.question.proofs.EverywhereLaws.{everywhere-at}
 use Rattle.judge.specs.declared.models.Model.{Model}
 use Rattle.judge.specs.declared.judging.Judgement.{Judgement}
@@ -84,15 +84,13 @@ module _ (A : Assignment) where
 -- a model is an assignment
 pub model-assigns : (E S : ℕ) (m : Model) → isModel E S m ≡ true → IsAssignment E (assigned m)
 unfolding isModel elementsInside
-model-assigns E S m h = record { large-enough = zero-le; within = λ a l. ltb-true _ _ (everywhere-at (λ b. ltb (getD (m .elements) b 0) (m .size)) E inside (a .0) l) }
+model-assigns E S m h = record { large-enough = zero-le; within = λ a l. ltb→lt _ _ (everywhere-at E (λ b. ltb (getD (m .elements) b 0) (m .size)) inside (a .0) l) }
   where
-    second : (a b c : Bool) → a && (b && c) ≡ true → b ≡ true
-    second true true c e = refl
-    second true false c e = e
-    second false b c e = absurd (subst T (sym e) tt)
+    both : T (elementsInside E m && masksInside S m)
+    both = and-right (leb (m .size) maxTerms) (elementsInside E m && masksInside S m) (T-true h)
 
-    inside : everywhere E (λ b. ltb (getD (m .elements) b 0) (m .size)) ≡ true
-    inside = second (leb (m .size) maxTerms) (elementsInside E m) (masksInside S m) h
+    inside : T (everywhere E (λ b. ltb (getD (m .elements) b 0) (m .size)))
+    inside = and-left (elementsInside E m) (masksInside S m) both
 
 module _ (q : Question) (m : Model) where
   -- the question is accepted, the model is one for its names, and every statement holds

@@ -1,4 +1,5 @@
 -- Laws that belong to no one function.
+pub mod TestLaws
 pub mod StatementsLaws
 pub mod CheckLaws
 pub mod EverywhereLaws

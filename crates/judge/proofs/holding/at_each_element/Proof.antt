@@ -6,7 +6,7 @@ use native.Mathlib.Omega.{arith}
 use borrow.Author.Needs.{needs}
 use borrow.Author.Tests.{not-true, not-false}
 use Rattle.question.specs.Meaning.{everywhere}
-use Rattle.question.proofs.EverywhereLaws.{everywhere-none, everywhere-more, everywhere-all, everywhere-fails}
+use Rattle.question.proofs.EverywhereLaws.{walk-none, walk-more, walk-ends, walk-fails}
 use Rattle.judge.specs.Models.{assigned}
 use Rattle.judge.specs.Elements.{atElement}
 use Rattle.judge.proofs.holding.at_each_element.Statement.{statement}
@@ -21,17 +21,17 @@ abbrev μ-loop : tie.MeasureT-loop
 returns : tie.Need-returns Inv-loop μ-loop
 returns c =
     let l = c .before .before .before in
-    sym (everywhere-fails _ (l .before .args .m .size) (l .loop .d) (c .before .before .loop-test .taken) (sym (c .before .at-element .ensures) ∙ not-true _ (c .if1 .taken)))
+    sym (walk-fails _ (l .before .args .m .size) (l .loop .d) (c .before .before .loop-test .taken) (sym (c .before .at-element .ensures) ∙ not-true _ (c .if1 .taken)))
 
 loop-again : tie.Need-loop-again Inv-loop μ-loop
 loop-again c =
     let l = c .before .before .before in
-    (omega arith, everywhere-more _ (l .loop .d) (l .loop .inv .1) (sym (c .before .at-element .ensures) ∙ not-false _ (c .if1 .left)))
+    (omega arith, walk-more _ (l .loop .d) (l .loop .inv .1) (sym (c .before .at-element .ensures) ∙ not-false _ (c .if1 .left)))
 
 returns-2 : tie.Need-returns-2 Inv-loop μ-loop
 returns-2 c =
     let l = c .before in
-    sym (everywhere-all _ (l .before .args .m .size) (l .loop .d) (l .loop .inv .0) (c .loop-test .left) (l .loop .inv .1))
+    sym (walk-ends _ (l .before .args .m .size) (l .loop .d) (l .loop .inv .0) (c .loop-test .left) (l .loop .inv .1))
 
 pub at-each-element-spec : {M : Type 1} → statement M
 at-each-element-spec =
@@ -39,7 +39,7 @@ at-each-element-spec =
     (tie.spec
     Inv-loop
     μ-loop
-    (λ c. (search needs, everywhere-none _))
+    (λ c. (search needs, walk-none _))
     (λ c κs. search needs)
     returns
     (λ c. search needs)

@@ -8,7 +8,7 @@ use borrow.Author.Tests.{lt-ltb, le-ltb}
 use lib.Dec.{ltb}
 use lib.ListN.{getD}
 use Rattle.question.specs.Meaning.{everywhere}
-use Rattle.question.proofs.EverywhereLaws.{everywhere-none, everywhere-more, everywhere-all, everywhere-fails}
+use Rattle.question.proofs.EverywhereLaws.{walk-none, walk-more, walk-ends, walk-fails}
 use Rattle.judge.specs.Models.{elementsInside}
 use Rattle.judge.proofs.models.elements_inside.Statement.{statement}
 use Rattle.judge.proofs.models.elements_inside.Tie as tie
@@ -23,18 +23,18 @@ returns : tie.Need-returns Inv-loop μ-loop
 unfolding elementsInside
 returns c =
     let l = c .before .before .before in
-    sym (everywhere-fails _ (l .before .args .names) (l .loop .a) (c .before .before .loop-test .taken) (le-ltb _ _ (rw (c .before .element .ensures) at (c .if1 .taken))))
+    sym (walk-fails _ (l .before .args .names) (l .loop .a) (c .before .before .loop-test .taken) (le-ltb _ _ (rw (c .before .element .ensures) at (c .if1 .taken))))
 
 loop-again : tie.Need-loop-again Inv-loop μ-loop
 loop-again c =
     let l = c .before .before .before in
-    (omega arith, everywhere-more _ (l .loop .a) (l .loop .inv .1) (lt-ltb _ _ (rw (c .before .element .ensures) at (c .if1 .left))))
+    (omega arith, walk-more _ (l .loop .a) (l .loop .inv .1) (lt-ltb _ _ (rw (c .before .element .ensures) at (c .if1 .left))))
 
 returns-2 : tie.Need-returns-2 Inv-loop μ-loop
 unfolding elementsInside
 returns-2 c =
     let l = c .before in
-    sym (everywhere-all _ (l .before .args .names) (l .loop .a) (l .loop .inv .0) (c .loop-test .left) (l .loop .inv .1))
+    sym (walk-ends _ (l .before .args .names) (l .loop .a) (l .loop .inv .0) (c .loop-test .left) (l .loop .inv .1))
 
 pub elements-inside-spec : {M : Type 1} → statement M
 elements-inside-spec =
@@ -42,7 +42,7 @@ elements-inside-spec =
     (tie.spec
     Inv-loop
     μ-loop
-    (λ c. (search needs, everywhere-none _))
+    (λ c. (search needs, walk-none _))
     (λ c κs. search needs)
     returns
     (λ c. search needs)

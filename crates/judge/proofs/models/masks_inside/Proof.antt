@@ -8,7 +8,7 @@ use borrow.Author.Tests.{not-true, not-false}
 use lib.Dec.{ltb}
 use lib.ListN.{getD}
 use Rattle.question.specs.Meaning.{everywhere}
-use Rattle.question.proofs.EverywhereLaws.{everywhere-none, everywhere-more, everywhere-all, everywhere-fails}
+use Rattle.question.proofs.EverywhereLaws.{walk-none, walk-more, walk-ends, walk-fails}
 use Rattle.judge.specs.Models.{masksInside}
 use Rattle.judge.proofs.models.masks_inside.Statement.{statement}
 use Rattle.judge.proofs.models.masks_inside.Tie as tie
@@ -28,18 +28,18 @@ returns : tie.Need-returns Inv-loop μ-loop
 unfolding masksInside
 returns c =
     let l = c .before .before .before .before in
-    sym (everywhere-fails _ (l .before .args .m .size) (l .loop .d) (c .before .before .before .loop-test .taken) (tested (c .before) ∙ not-true _ (c .if1 .taken)))
+    sym (walk-fails _ (l .before .args .m .size) (l .loop .d) (c .before .before .before .loop-test .taken) (tested (c .before) ∙ not-true _ (c .if1 .taken)))
 
 loop-again : tie.Need-loop-again Inv-loop μ-loop
 loop-again c =
     let l = c .before .before .before .before in
-    (omega arith, everywhere-more _ (l .loop .d) (l .loop .inv .1) (tested (c .before) ∙ not-false _ (c .if1 .left)))
+    (omega arith, walk-more _ (l .loop .d) (l .loop .inv .1) (tested (c .before) ∙ not-false _ (c .if1 .left)))
 
 returns-2 : tie.Need-returns-2 Inv-loop μ-loop
 unfolding masksInside
 returns-2 c =
     let l = c .before in
-    sym (everywhere-all _ (l .before .args .m .size) (l .loop .d) (l .loop .inv .0) (c .loop-test .left) (l .loop .inv .1))
+    sym (walk-ends _ (l .before .args .m .size) (l .loop .d) (l .loop .inv .0) (c .loop-test .left) (l .loop .inv .1))
 
 pub masks-inside-spec : {M : Type 1} → statement M
 masks-inside-spec =
@@ -47,7 +47,7 @@ masks-inside-spec =
     (tie.spec
     Inv-loop
     μ-loop
-    (λ c. (search needs, everywhere-none _))
+    (λ c. (search needs, walk-none _))
     (λ c κs. search needs)
     (λ c κs. search needs)
     returns

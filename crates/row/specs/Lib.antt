@@ -1,0 +1,4 @@
+-- The definitions that the contracts cite.
+pub mod Parts
+pub mod Rows
+pub mod Checks

@@ -1,0 +1,8 @@
+// A row as one number of 20 bits: packing and unpacking, and the check of rows that are handed in.
+mod checks;
+mod parts;
+
+pub use checks::check_rows;
+pub use parts::RowParts;
+pub use parts::pack;
+pub use parts::unpack;

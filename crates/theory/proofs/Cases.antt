@@ -1,0 +1,26 @@
+-- The cases A to N of document 01: each is accepted and has the answer of the table, by computing.
+use mathlib.Core.Path.{_≡_, refl}
+use mathlib.Core.List.{map}
+use mathlib.Core.Option.{Option}
+use Rattle.question.specs.declared.checks.TableCheck.{TableCheck}
+use Rattle.question.specs.declared.checks.TableCheck.the-variants.{Accepted}
+use Rattle.question.specs.Questions.{statements, witness, witnesses, termsOf}
+use Rattle.question.specs.Admissions.{admission}
+use Rattle.question.specs.Checks.{statementsChecked, checked}
+use Rattle.theory.specs.Searches.{firstFrom, firstPlacing, eachFrom}
+use Rattle.theory.specs.Solutions.{Solution}
+use Rattle.theory.specs.FirstModels.{smallestMask, modelOf, firstModel}
+use Rattle.theory.specs.Reduction.{rowList}
+use Rattle.theory.specs.Answers.{answer}
+use Rattle.theory.specs.Cases.{Case, cases}
+
+-- what is found, and what the table says
+abbrev found : Case → TableCheck × Option Solution
+found c = (checked (c .asks), answer (c .asks))
+
+abbrev wanted : Case → TableCheck × Option Solution
+wanted c = (Accepted, c .answers)
+
+pub cases-answered : map found cases ≡ map wanted cases
+unfolding checked statementsChecked admission statements witness witnesses termsOf answer rowList firstModel modelOf smallestMask firstPlacing firstFrom eachFrom
+cases-answered = refl

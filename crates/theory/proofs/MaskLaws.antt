@@ -1,0 +1,125 @@
+-- Classes are independent: masks meet every row exactly if each serves its class. So the smallest masks class by class are the smallest together.
+use Prim.Native.Nat.{ℕ, _≤_, _<_}
+use mathlib.Core.Path.{_≡_, refl, sym, ap, subst, _∙_}
+use mathlib.Core.Bool.{Bool, true, false, not, _||_, cond}
+use mathlib.Core.List.{List, [], _∷_}
+use mathlib.Core.Option.{Option, none, some, Option·map, Option·none-ne-some, Option·some-ne-none}
+use native.Mathlib.Omega.{arith}
+use native.Mathlib.Decide.{decLe}
+use borrow.Author.Tests.{eqb-true, eq-eqb}
+use lib.Dec.{T}
+use lib.ListN.{length}
+use lib.Seq.{ext-getD}
+use Rattle.theory.specs.Arrangements.{IsArrangement, classes, classOf, inClass}
+use Rattle.theory.specs.Searches.{firstFrom, eachFrom}
+use Rattle.theory.specs.Rules.{Row}
+use Rattle.theory.specs.Solutions.{Solution, withMasks, maskOf, allRows, metBy, met, IsSolution}
+use Rattle.theory.specs.FirstModels.{serves, servesAll, smallestMask, modelOf, HasSmallest}
+use Rattle.question.proofs.TestLaws.{true-T}
+use Rattle.theory.proofs.ArrangementLaws.{class-below}
+use Rattle.theory.proofs.SearchLaws.{FirstNumberIs, firstFrom-is, EachIs, eachFrom-is}
+use Rattle.theory.proofs.RuleLaws.{EveryRow, TermsBelow, all-every, every-all, all-map}
+
+module _ {Test : Type 0} (fits : ℕ → (ℕ → Bool) → Test → Bool) where
+  module _ (l ms : List ℕ) where
+    row-serves : (k : ℕ) (r : Row Test) → T (met fits l ms r) → T (serves fits l k (maskOf ms k) r)
+    row-serves k r h = go (inClass l k (r .term)) refl
+      where
+        go : (b : Bool) → inClass l k (r .term) ≡ b → T (not b || metBy fits l k (maskOf ms k) r)
+        go true e = subst (λ j. T (metBy fits l j (maskOf ms j) r)) (sym (eqb-true k (classOf l (r .term)) e)) h
+        go false e = tt
+
+    -- masks that meet every row serve each class
+    pub met-serves : (rows : List (Row Test)) → T (allRows (met fits l ms) rows) → (k : ℕ) → T (servesAll fits rows l k (maskOf ms k))
+    met-serves rows h k = all-map (met fits l ms) (serves fits l k (maskOf ms k)) (row-serves k) rows h
+
+    serves-row : (r : Row Test) → T (serves fits l (classOf l (r .term)) (maskOf ms (classOf l (r .term))) r) → T (met fits l ms r)
+    serves-row r h = subst (λ b. T (not b || met fits l ms r)) (eq-eqb (classOf l (r .term)) (classOf l (r .term)) refl) h
+
+    abbrev Served : List (Row Test) → Type 0
+    Served rows = (k : ℕ) → k < classes l → EveryRow (λ r. T (serves fits l k (maskOf ms k) r)) rows
+
+    serves-rows : (rows : List (Row Test)) → TermsBelow (length l) rows → Served rows → EveryRow (λ r. T (met fits l ms r)) rows
+    serves-rows [] below h = tt
+    serves-rows (r ∷ rs) below h = (serves-row r (h (classOf l (r .term)) (class-below 0 l (r .term) (below .0)) .0), serves-rows rs (below .1) (λ k lt. h k lt .1))
+
+    -- masks that serve each class meet every row
+    pub serves-met : (rows : List (Row Test)) → TermsBelow (length l) rows → ((k : ℕ) → k < classes l → T (servesAll fits rows l k (maskOf ms k))) → T (allRows (met fits l ms) rows)
+    serves-met rows below h = every-all (met fits l ms) rows (serves-rows rows below (λ k lt. all-every (serves fits l k (maskOf ms k)) rows (h k lt)))
+
+  module _ (bound : ℕ) (rows : List (Row Test)) where
+    -- the smallest mask of a class, or no mask below the bound serves it
+    abbrev pub SmallestIs : List ℕ → ℕ → Option ℕ → Type 0
+    SmallestIs l k none = (m : ℕ) → m < bound → T (servesAll fits rows l k m) → ⊥
+    SmallestIs l k (some m) = (m < bound) × T (servesAll fits rows l k m) × ((i : ℕ) → T (servesAll fits rows l k i) → m ≤ i)
+
+    pub smallestMask-is : (l : List ℕ) (k : ℕ) → SmallestIs l k (smallestMask fits bound rows l k)
+    unfolding smallestMask
+    smallestMask-is l k = go (firstFrom bound 0 try) (firstFrom-is bound 0 try)
+      where
+        try : ℕ → Option ℕ
+        try m = cond (servesAll fits rows l k m) (some m) none
+
+        fails : (m : ℕ) → try m ≡ none → T (servesAll fits rows l k m) → ⊥
+        fails m e h = Option·some-ne-none m (subst (λ b. cond b (some m) none ≡ none) (true-T (servesAll fits rows l k m) h) e)
+
+        passed : (m n : ℕ) (b : Bool) → cond b (some m) none ≡ some n → T b × (m ≡ n)
+        passed m n true e = (tt, cc)
+        passed m n false e = absurd (Option·none-ne-some n e)
+
+        least : (m i : ℕ) → ((j : ℕ) → 0 ≤ j → j < m → try j ≡ none) → T (servesAll fits rows l k i) → Dec (m ≤ i) → m ≤ i
+        least m i h s (yes q) = q
+        least m i h s (no q) = absurd (fails i (h i (omega arith) (omega arith)) s)
+
+        go : (o : Option ℕ) → FirstNumberIs bound 0 try o → SmallestIs l k o
+        go none h = λ m lt. fails m (h m (omega arith) (omega arith))
+        go (some m) h = let p = passed (h .at) m (servesAll fits rows l k (h .at)) (h .gives) in
+            let e : h .at ≡ m = p .1 in
+            (omega arith, subst (λ j. T (servesAll fits rows l k j)) e (p .0), λ i s. least m i (λ j low lt. h .none-before j low (omega arith)) s (decLe m i))
+
+    module _ (terms : ℕ) where
+      -- the model of an arrangement: its solution with the smallest masks, or it has no solution
+      abbrev pub ModelIs : List ℕ → Option Solution → Type 0
+      ModelIs l none = (ms : List ℕ) → IsSolution fits terms bound rows (withMasks l ms) → ⊥
+      ModelIs l (some sol) = (sol .arrangement ≡ l) × IsSolution fits terms bound rows sol × HasSmallest fits bound rows sol
+
+      pub modelOf-is : TermsBelow terms rows → (l : List ℕ) → IsArrangement l → length l ≡ terms → ModelIs l (modelOf fits bound rows l)
+      unfolding modelOf
+      modelOf-is below l arranged long = go (eachFrom (classes l) 0 each) (eachFrom-is (classes l) 0 each 0)
+        where
+          each : ℕ → Option ℕ
+          each = smallestMask fits bound rows l
+
+          is : (k : ℕ) (o : Option ℕ) → each k ≡ o → SmallestIs l k o
+          is k o e = subst (SmallestIs l k) e (smallestMask-is l k)
+
+          go : (o : Option (List ℕ)) → EachIs (classes l) 0 each 0 o → ModelIs l (Option·map (withMasks l) o)
+          go none h = λ ms s. is (h .0) none (h .3) (maskOf ms (h .0)) (s .masks-below (h .0) (omega arith)) (met-serves l ms rows (s .rows-met) (h .0))
+          go (some ms) h = (refl, solved, λ k m lt low s. has k lt .2 m s)
+            where
+              has : (k : ℕ) → k < classes l → SmallestIs l k (some (maskOf ms k))
+              has k lt = is k (some (maskOf ms k)) (ap each (omega arith) ∙ h .1 k lt)
+
+              solved : IsSolution fits terms bound rows (withMasks l ms)
+              solved = record {
+                arranged = arranged;
+                each-term = long;
+                each-class = h .0;
+                masks-below = λ k lt. has k lt .0;
+                rows-met = serves-met l ms rows (subst (λ n. TermsBelow n rows) (sym long) below) (λ k lt. has k lt .1);
+              }
+
+      -- of two solutions with the same arrangement, one with the smallest masks has none that is larger
+      smaller : (one other : Solution) → one .arrangement ≡ other .arrangement → HasSmallest fits bound rows one → IsSolution fits terms bound rows other →
+          (k : ℕ) → k < classes (one .arrangement) → maskOf (one .masks) k ≤ maskOf (other .masks) k
+      smaller one other e p s k lt = p k (maskOf (other .masks) k) lt (s .masks-below k (subst (λ l. k < classes l) e lt))
+          (subst (λ l. T (servesAll fits rows l k (maskOf (other .masks) k))) (sym e) (met-serves (other .arrangement) (other .masks) rows (s .rows-met) k))
+
+      -- so an arrangement has at most one solution with the smallest masks
+      pub smallest-one : (one other : Solution) → one .arrangement ≡ other .arrangement → IsSolution fits terms bound rows one → IsSolution fits terms bound rows other →
+          HasSmallest fits bound rows one → HasSmallest fits bound rows other → one ≡ other
+      smallest-one one other e s t p q = ap (λ l. withMasks l (one .masks)) e ∙ ap (withMasks (other .arrangement)) (ext-getD 0 (one .masks) (other .masks) (s .each-class ∙ ap classes e ∙ sym (t .each-class)) at)
+        where
+          at : (k : ℕ) → k < length (one .masks) → maskOf (one .masks) k ≡ maskOf (other .masks) k
+          at k h = let lt : k < classes (one .arrangement) = omega (arith, s .each-class) in
+              omega (arith, smaller one other e p t k lt, smaller other one (sym e) q s k (subst (λ l. k < classes l) e lt))
