@@ -46,11 +46,7 @@ fn judge_model(q: Question, m: Model) -> Judgement
     ensures { λ r. ⌜ r ≡ modelJudged q m ⌝ }
 {
     if !is_model(m, q.elements, q.sets) {
-        let refusal = Refusal {
-            number: Refusal::BAD_MODEL,
-            place: 0,
-        };
-        return Judgement::Refused(refusal);
+        return Judgement::Refused(Refusal::new(Refusal::BAD_MODEL, 0));
     }
     first_failing(q, m)
 }

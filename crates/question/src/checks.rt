@@ -7,23 +7,12 @@ use crate::statements::Statement;
 ghost use mathlib.Core.Path.{_≡_};
 ghost use Prim.Native.Nat.{_≤_};
 ghost use Rattle.question.specs.Limits.{maxStatements};
-ghost use Rattle.question.specs.Refusals.{refusal};
 ghost use Rattle.question.specs.Questions.{statements, witness, termsOf};
 ghost use Rattle.question.specs.Checks.{statementsChecked, checked};
 
 pub enum TableCheck {
     Accepted,
     Refused(Refusal),
-}
-
-fn refuse(number: u8, place: usize) -> TableCheck
-    ensures { λ r. ⌜ r ≡ TableCheck.Refused (refusal number place) ⌝ }
-{
-    let refusal = Refusal {
-        number: number,
-        place: place,
-    };
-    TableCheck::Refused(refusal)
 }
 
 // How many witnesses a statement makes.
@@ -49,10 +38,10 @@ fn check_statements(q: Question) -> TableCheck
         let s = entry.statement;
         match admit(s, elements, sets, terms) {
             Admission::Undeclared(_) => {
-                return refuse(Refusal::NAME_NOT_DECLARED, i);
+                return TableCheck::Refused(Refusal::new(Refusal::NAME_NOT_DECLARED, i));
             }
             Admission::TooManyTerms => {
-                return refuse(Refusal::TOO_MANY_TERMS, i);
+                return TableCheck::Refused(Refusal::new(Refusal::TOO_MANY_TERMS, i));
             }
             Admission::Admitted => {}
         }
@@ -67,13 +56,13 @@ pub fn check(q: Question) -> TableCheck
     ensures { λ r. ⌜ r ≡ checked q ⌝ }
 {
     if Question::MAX_ELEMENTS < q.elements {
-        return refuse(Refusal::TOO_MANY_NAMES, 0);
+        return TableCheck::Refused(Refusal::new(Refusal::TOO_MANY_NAMES, 0));
     }
     if Question::MAX_SETS < q.sets {
-        return refuse(Refusal::TOO_MANY_NAMES, 0);
+        return TableCheck::Refused(Refusal::new(Refusal::TOO_MANY_NAMES, 0));
     }
     if Question::MAX_STATEMENTS < q.count {
-        return refuse(Refusal::TOO_MANY_STATEMENTS, 0);
+        return TableCheck::Refused(Refusal::new(Refusal::TOO_MANY_STATEMENTS, 0));
     }
     check_statements(q)
 }

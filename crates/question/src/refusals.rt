@@ -1,4 +1,7 @@
 // A refusal: its number in document 01, and the place that the number speaks of.
+ghost use mathlib.Core.Path.{_≡_};
+ghost use Rattle.question.specs.Refusals.{refusal};
+
 pub struct Refusal {
     pub number: u8,
     pub place: usize,
@@ -28,4 +31,13 @@ impl Refusal {
     pub const BAD_MODEL: u8 = 11;
 
     pub const BAD_ROW: u8 = 12;
+
+    pub fn new(number: u8, place: usize) -> Refusal
+        ensures { λ r. ⌜ r ≡ refusal number place ⌝ }
+    {
+        Refusal {
+            number: number,
+            place: place,
+        }
+    }
 }

@@ -6,18 +6,7 @@ use question::Refusal;
 use question::TableCheck;
 ghost use mathlib.Core.Path.{_≡_};
 ghost use Prim.Native.Nat.{_<_};
-ghost use Rattle.question.specs.Refusals.{refusal};
 ghost use Rattle.row.specs.Checks.{placesGood, rowGood, rowsCheckedFrom, rowsChecked};
-
-fn refuse(number: u8, place: usize) -> TableCheck
-    ensures { λ r. ⌜ r ≡ TableCheck.Refused (refusal number place) ⌝ }
-{
-    let refusal = Refusal {
-        number: number,
-        place: place,
-    };
-    TableCheck::Refused(refusal)
-}
 
 // Do the places of a row name declared terms and sets, and do the unused ones hold 0.
 fn places_good(p: RowParts, terms: usize, sets: u8) -> bool
@@ -64,7 +53,7 @@ fn check_each(rows: &[u32], terms: usize, sets: u8) -> TableCheck
     let mut i: usize = 0;
     while i < rows.len() {
         if !row_good(rows[i], terms, sets) {
-            return refuse(Refusal::BAD_ROW, i);
+            return TableCheck::Refused(Refusal::new(Refusal::BAD_ROW, i));
         }
         i += 1;
     }
@@ -76,13 +65,13 @@ pub fn check_rows(rows: &[u32], terms: usize, sets: u8) -> TableCheck
     ensures { λ r. ⌜ r ≡ rowsChecked terms sets (now (rows .entry)) ⌝ }
 {
     if Question::MAX_TERMS < terms {
-        return refuse(Refusal::TOO_MANY_NAMES, 0);
+        return TableCheck::Refused(Refusal::new(Refusal::TOO_MANY_NAMES, 0));
     }
     if Question::MAX_SETS < sets {
-        return refuse(Refusal::TOO_MANY_NAMES, 0);
+        return TableCheck::Refused(Refusal::new(Refusal::TOO_MANY_NAMES, 0));
     }
     if Question::MAX_ROWS < rows.len() {
-        return refuse(Refusal::TOO_MANY_STATEMENTS, 0);
+        return TableCheck::Refused(Refusal::new(Refusal::TOO_MANY_STATEMENTS, 0));
     }
     check_each(rows, terms, sets)
 }

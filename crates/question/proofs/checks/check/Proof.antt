@@ -1,9 +1,10 @@
 -- `check` refuses in document 01's order: each return rewrites with the tests that led there.
-use mathlib.Core.Path.{sym, _∙_}
+use mathlib.Core.Path.{sym, ap, _∙_}
 use mathlib.Core.Bool.{_||_}
 use native.Mathlib.Omega.{arith}
 use borrow.Author.Needs.{needs}
 use borrow.Author.Tests.{lt-ltb, le-ltb}
+use Rattle.question.specs.declared.checks.TableCheck.the-variants.{Refused}
 use Rattle.question.specs.Limits.{maxElements, maxSets, maxStatements}
 use Rattle.question.specs.Checks.{checked}
 use Rattle.question.proofs.checks.check.Statement.{statement}
@@ -11,16 +12,16 @@ use Rattle.question.proofs.checks.check.Tie as tie
 
 returns : tie.Need-returns
 unfolding checked
-returns c = c .refuse .ensures ∙ sym (simp (lt-ltb maxElements _ (c .before .if1 .taken)))
+returns c = ap Refused (c .new .ensures) ∙ sym (simp (lt-ltb maxElements _ (c .before .if1 .taken)))
 
 returns-2 : tie.Need-returns-2
 unfolding checked
-returns-2 c = c .refuse2 .ensures ∙ sym (simp (le-ltb maxElements _ (c .before .before .before .if1 .left), lt-ltb maxSets _ (c .before .if2 .taken)))
+returns-2 c = ap Refused (c .new2 .ensures) ∙ sym (simp (le-ltb maxElements _ (c .before .before .before .if1 .left), lt-ltb maxSets _ (c .before .if2 .taken)))
 
 returns-3 : tie.Need-returns-3
 unfolding checked
 returns-3 c =
-    c .refuse3 .ensures
+    ap Refused (c .new3 .ensures)
     ∙ sym (simp (le-ltb maxElements _ (c .before .before .before .before .before .if1 .left), le-ltb maxSets _ (c .before .before .before .if2 .left), lt-ltb maxStatements _ (c .before .if3 .taken)))
 
 returns-4 : tie.Need-returns-4

@@ -4,6 +4,7 @@ use mathlib.Core.Path.{_≡_, refl, sym, ap, _∙_}
 use native.Mathlib.Omega.{arith}
 use borrow.Author.Needs.{needs}
 use lib.ListN.{length, getD}
+use Rattle.question.specs.declared.checks.TableCheck.the-variants.{Refused}
 use Rattle.question.specs.Questions.{idle, witness}
 use Rattle.question.specs.Admissions.{admission}
 use Rattle.question.specs.Checks.{admittedThen}
@@ -30,12 +31,12 @@ turned c =
 returns : tie.Need-returns Inv-loop μ-loop
 returns c =
     let undeclared = sym (c .before .before .before .admit .ensures) ∙ c .before .enum-told .given .1 in
-    c .refuse .ensures ∙ sym (rw undeclared at (turned (c .before .before .before .before .before)))
+    ap Refused (c .new .ensures) ∙ sym (rw undeclared at (turned (c .before .before .before .before .before)))
 
 returns-2 : tie.Need-returns-2 Inv-loop μ-loop
 returns-2 c =
     let too-many = sym (c .before .before .before .admit .ensures) ∙ c .before .enum-told2 .given .1 in
-    c .refuse2 .ensures ∙ sym (rw too-many at (turned (c .before .before .before .before .before)))
+    ap Refused (c .new2 .ensures) ∙ sym (rw too-many at (turned (c .before .before .before .before .before)))
 
 few : (c : tie.After-witness-of Inv-loop μ-loop) → c .witness-of .result ≤ 1
 few c = rw (c .witness-of .ensures) (witness-small _)

@@ -1,11 +1,12 @@
 -- `check_each` walks the rows in order: the check of the whole is the check from the index on.
 use Prim.Native.Nat.{_+_, _-_, _≤_}
-use mathlib.Core.Path.{_≡_, refl, sym, _∙_}
+use mathlib.Core.Path.{_≡_, refl, sym, ap, _∙_}
 use mathlib.Core.Bool.{cond}
 use native.Mathlib.Omega.{arith}
 use borrow.Author.Needs.{needs}
 use borrow.Author.Tests.{not-true, not-false}
 use lib.ListN.{length, getD}
+use Rattle.question.specs.declared.checks.TableCheck.the-variants.{Refused}
 use Rattle.row.specs.Checks.{rowGood}
 use Rattle.row.proofs.CheckLaws.{checkFrom, turn, ended}
 use Rattle.row.proofs.checks.check_each.Statement.{statement}
@@ -22,7 +23,7 @@ returns c =
     let l = c .before .before .before .before .before in
     let a = l .before .before .args in
     let bad = sym (c .before .before .row-good .ensures) ∙ not-true (c .before .before .row-good .result) (c .before .if1 .taken) in
-    c .refuse .ensures ∙ sym (l .loop .inv .1 ∙ (rw bad at (turn (a .terms) (a .sets) (a .rows .now) (l .loop .i) (c .before .before .before .before .loop-test .taken))))
+    ap Refused (c .new .ensures) ∙ sym (l .loop .inv .1 ∙ (rw bad at (turn (a .terms) (a .sets) (a .rows .now) (l .loop .i) (c .before .before .before .before .loop-test .taken))))
 
 loop-again : tie.Need-loop-again Inv-loop μ-loop
 loop-again c =

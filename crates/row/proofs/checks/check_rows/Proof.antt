@@ -1,7 +1,8 @@
 -- `check_rows` refuses in document 01's order: each return rewrites with the tests that led there.
-use mathlib.Core.Path.{sym, _∙_}
+use mathlib.Core.Path.{sym, ap, _∙_}
 use borrow.Author.Needs.{needs}
 use borrow.Author.Tests.{lt-ltb, le-ltb}
+use Rattle.question.specs.declared.checks.TableCheck.the-variants.{Refused}
 use Rattle.question.specs.Limits.{maxTerms, maxSets, maxRows}
 use Rattle.row.specs.Checks.{rowsChecked}
 use Rattle.row.proofs.checks.check_rows.Statement.{statement}
@@ -9,16 +10,16 @@ use Rattle.row.proofs.checks.check_rows.Tie as tie
 
 returns : tie.Need-returns
 unfolding rowsChecked
-returns c = c .refuse .ensures ∙ sym (simp (lt-ltb maxTerms _ (c .before .if1 .taken)))
+returns c = ap Refused (c .new .ensures) ∙ sym (simp (lt-ltb maxTerms _ (c .before .if1 .taken)))
 
 returns-2 : tie.Need-returns-2
 unfolding rowsChecked
-returns-2 c = c .refuse2 .ensures ∙ sym (simp (le-ltb maxTerms _ (c .before .before .if1 .left), lt-ltb maxSets _ (c .before .if2 .taken)))
+returns-2 c = ap Refused (c .new2 .ensures) ∙ sym (simp (le-ltb maxTerms _ (c .before .before .if1 .left), lt-ltb maxSets _ (c .before .if2 .taken)))
 
 returns-3 : tie.Need-returns-3
 unfolding rowsChecked
 returns-3 c =
-    c .refuse3 .ensures
+    ap Refused (c .new3 .ensures)
     ∙ sym (simp (le-ltb maxTerms _ (c .before .before .before .if1 .left), le-ltb maxSets _ (c .before .before .if2 .left), lt-ltb maxRows _ (c .before .if3 .taken)))
 
 returns-4 : tie.Need-returns-4
