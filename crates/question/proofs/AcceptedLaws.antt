@@ -21,7 +21,8 @@ use Rattle.question.specs.Questions.{statements, witness, witnesses, ter
 use Rattle.question.specs.Admissions.{nameTest, oneTooMany, namesThen, admission}
 use Rattle.question.specs.Checks.{admittedThen, statementsChecked, checked, AllDeclared, IsAccepted}
 
-refused-accepted : {A : Type 0} {r : Refusal} → Refused r ≡ Accepted → A
+-- a refusal is no acceptance
+pub refused-accepted : {A : Type 0} {r : Refusal} → Refused r ≡ Accepted → A
 refused-accepted e = let z : _≡_ {A = ℕ} 0 1 = cc in absurd (omega arith)
 
 -- a statement that is not one too many keeps T within its limit, and the other way round

@@ -1,3 +1,8 @@
 -- Laws that belong to no one function.
 pub mod BitLaws
 pub mod CheckLaws
+pub mod RoundTrips
+pub mod GoodRows
+pub mod DeclaredRows
+pub mod AcceptedRows
+pub mod OneResultLaws
