@@ -6,6 +6,7 @@ use Rattle.question.proofs.questions.Question.empty.Reads as empty
 use Rattle.question.proofs.statements.Statement.tag.Reads as tag
 use Rattle.question.proofs.admissions.name_test.Reads as name-test
 use Rattle.question.proofs.admissions.admit.Reads as admit
+use Rattle.question.proofs.checks.witness_of.Reads as witness-of
 use Rattle.question.proofs.checks.check.Reads as check
 use Rattle.question.proofs.checks.terms.Reads as terms
 
@@ -26,6 +27,9 @@ name-test-one κs given x y s t = both
 
 admit-one : OneResult admit.Learnt
 admit-one κs given x y s t = both
+
+witness-of-one : OneResult witness-of.Learnt
+witness-of-one κs given x y s t = both
 
 check-one : OneResult check.Learnt
 check-one κs given x y s t = both

@@ -16,7 +16,7 @@ pub enum TableCheck {
 }
 
 // How many witnesses a statement makes.
-fn witness_of(s: Statement) -> usize
+pub fn witness_of(s: Statement) -> usize
     ensures { λ r. ⌜ r ≡ witness s ⌝ }
 {
     let tag = s.tag();

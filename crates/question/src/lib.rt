@@ -14,6 +14,7 @@ pub use admissions::name_test;
 pub use checks::TableCheck;
 pub use checks::check;
 pub use checks::terms;
+pub use checks::witness_of;
 pub use names::ElementName;
 pub use names::SetName;
 pub use questions::Question;

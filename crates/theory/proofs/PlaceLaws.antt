@@ -116,7 +116,7 @@ module _ (E S : ℕ) where
   rules-named (s ∷ ss) h = (rule-named s (h .0), rules-named ss (h .1))
 
 -- a rule has as many witnesses as its statement makes
-rule-witness : (s : Statement) → ownWitness (rule s) ≡ witness s
+pub rule-witness : (s : Statement) → ownWitness (rule s) ≡ witness s
 unfolding witness
 rule-witness (ElementsEqual a b) = refl
 rule-witness (ElementsDiffer a b) = refl

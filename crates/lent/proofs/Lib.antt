@@ -1,0 +1,2 @@
+-- The laws of writing from the front.
+pub mod OverLaws

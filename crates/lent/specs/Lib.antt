@@ -1,0 +1,3 @@
+-- The definitions that contracts over a lent buffer cite.
+pub mod Over
+pub mod OneOutcome

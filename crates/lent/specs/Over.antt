@@ -1,0 +1,8 @@
+-- A lent buffer that is written from the front.
+use Prim.Native.Nat.{ℕ}
+use mathlib.Core.List.{List, _++_}
+use lib.ListN.{length, drop}
+
+-- some numbers over the front of what was there: those past the ones written keep their values
+abbrev pub over : List ℕ → List ℕ → List ℕ
+over written old = written ++ drop (length written) old

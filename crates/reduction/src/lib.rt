@@ -1,0 +1,6 @@
+// The reduction: a question's rows, packed, from the start of a lent buffer.
+mod reducing;
+mod writing;
+
+pub use reducing::Reduced;
+pub use reducing::reduce;
