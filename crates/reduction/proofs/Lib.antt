@@ -1,3 +1,5 @@
 -- Laws that belong to no one function.
 pub mod WritingLaws
 pub mod ReducingLaws
+pub mod ReducedRows
+pub mod OneOutcomeLaws

@@ -63,16 +63,17 @@ fn put_rows(q: Question, terms: usize, rows: &mut [u32])
     requires { ⌜ IsAccepted q × (terms ≡ termsOf q) × (length (packedRows q) ≤ length (now rows)) ⌝ }
     ensures { λ _. ⌜ now (rows .exit) ≡ over (packedRows q) (now (rows .entry)) ⌝ }
 {
-    let count = q.count;
+    let stated = q.count;
     let elements = q.elements;
     let mut witness = elements as usize;
     let mut at: usize = 0;
     let mut i: usize = 0;
-    while i < count {
+    while i < stated {
         let entry = q.table[i];
         let s = entry.statement;
-        at += put_statement(s, terms, witness as u8, &mut rows[at..]);
-        witness += witness_of(s);
+        let next = witness + witness_of(s);
+        at += put_statement(s, terms, witness, &mut rows[at..]);
+        witness = next;
         i += 1;
     }
 }

@@ -47,8 +47,8 @@ fn put_each(kind: u8, first: u8, second: u8, third: u8, terms: usize, rows: &mut
 }
 
 // The rows of a statement, where there are so many terms and the next witness is term `witness`.
-pub(crate) fn put_statement(s: Statement, terms: usize, witness: u8, rows: &mut [u32]) -> usize
-    requires { ⌜ (terms ≤ 12) × (length (statementRows terms witness s) ≤ length (now rows)) ⌝ }
+pub(crate) fn put_statement(s: Statement, terms: usize, witness: usize, rows: &mut [u32]) -> usize
+    requires { ⌜ (terms ≤ 12) × (length (statementRows terms witness s) ≤ length (now rows)) × (witness < 256) ⌝ }
     ensures { λ r. ⌜ (r ≡ length (statementRows terms witness s)) × (now (rows .exit) ≡ over (statementRows terms witness s) (now (rows .entry))) ⌝ }
 {
     match s {
@@ -57,7 +57,7 @@ pub(crate) fn put_statement(s: Statement, terms: usize, witness: u8, rows: &mut 
         Statement::In(a, x) => put_one(2, a.0, x.0, 0, rows),
         Statement::NotIn(a, x) => put_one(3, a.0, x.0, 0, rows),
         Statement::SetsEqual(x, y) => put_each(4, x.0, y.0, 0, terms, rows),
-        Statement::SetsDiffer(x, y) => put_one(5, witness, x.0, y.0, rows),
+        Statement::SetsDiffer(x, y) => put_one(5, witness as u8, x.0, y.0, rows),
         Statement::Empty(x) => put_each(3, x.0, 0, 0, terms, rows),
         Statement::Single(x, a) => put_each(6, x.0, a.0, 0, terms, rows),
         Statement::Union(x, y, z) => put_each(7, x.0, y.0, z.0, terms, rows),

@@ -1,6 +1,6 @@
 -- `put_rows` writes the rows of one statement behind those of the one before: some are written, and the rows of the statements left are still to come.
 use denote.Ref.{now}
-use Prim.Native.Nat.{ℕ, _+_, _-_, _≤_}
+use Prim.Native.Nat.{ℕ, _+_, _-_, _≤_, _<_}
 use mathlib.Core.Path.{_≡_, sym, ap, subst, _∙_}
 use mathlib.Core.List.{List, _++_}
 use native.Mathlib.Omega.{arith}
@@ -50,29 +50,34 @@ room c =
     let fits = run-room (turned c) (l .before .before .pre .2) in
     (fits .0, omega (arith, fits .1, length-append (statementRows (a .terms) (l .loop .witness) s) (rowsFrom (a .t1) (a .terms) (l .loop .i + 1) (l .loop .witness + witness s)), l .before .before .pre .2))
 
-put-statement-requires : tie.Need-put-statement-requires Inv-loop μ-loop
-put-statement-requires c κs =
-    let e = c .before .before .before .before .before in
-    let fits = room (c .before .before) in
-    (omega (arith, e .pre .1, e .pre .0 .few-terms), simp (length-take, length-drop) (omega (arith, fits .0, fits .1)))
-
-add-at : tie.Need-add-at Inv-loop μ-loop
-add-at c = let fits = room (c .before .before .before .before .before) in omega (arith, c .before .before .put-statement .ensures .0, fits .0, fits .1)
+-- the next witness has a number of one byte
+small : (c : tie.In-loop Inv-loop μ-loop) → c .before .loop .witness < 256
+small c = let l = c .before in omega (arith, l .loop .inv .1, l .before .before .pre .0 .few-elements, l .before .before .pre .0 .few-statements, c .loop-test .taken)
 
 few : (c : tie.After-witness-of Inv-loop μ-loop) → c .witness-of .result ≤ 1
 few c = rw (c .witness-of .ensures) (witness-small _)
+
+put-statement-requires : tie.Need-put-statement-requires Inv-loop μ-loop
+put-statement-requires c κs =
+    let e = c .before .before .before .before .before .before in
+    let fits = room (c .before .before .before) in
+    (omega (arith, e .pre .1, e .pre .0 .few-terms), simp (length-take, length-drop) (omega (arith, fits .0, fits .1)), small (c .before .before .before))
+
+add-at : tie.Need-add-at Inv-loop μ-loop
+add-at c = let fits = room (c .before .before .before .before .before .before) in omega (arith, c .before .before .put-statement .ensures .0, fits .0, fits .1)
 
 loop-again : tie.Need-loop-again Inv-loop μ-loop
 loop-again c =
     let l = c .before .before .before .before .before .before .before in
     let a = l .before .before .args in
-    let put = c .before .before .before .put-statement in
+    let put = c .before .before .put-statement in
+    let own = c .before .before .before .before .witness-of in
     let s = getD (a .t1 .table) (l .loop .i) idle .statement in
     let rest : ℕ → List ℕ = λ v. rowsFrom (a .t1) (a .terms) (l .loop .i + 1) (l .loop .witness + v) in (
       omega arith,
-      omega (arith, few c),
-      run-next (statementRows (a .terms) (l .loop .witness) s) (rest (witness s)) (rest (c .witness-of .result)) (put .last .1 .1 .1 .0) (put .result)
-          (turned (c .before .before .before .before .before .before)) (put .ensures .1) (put .ensures .0) (ap rest (c .witness-of .ensures)),
+      omega (arith, l .loop .inv .1, few (c .before .before .before .before)),
+      run-next (statementRows (a .terms) (l .loop .witness) s) (rest (witness s)) (rest (own .result)) (put .last .1 .1 .1 .0) (put .result)
+          (turned (c .before .before .before .before .before .before)) (put .ensures .1) (put .ensures .0) (ap rest (own .ensures)),
     )
 
 returns : tie.Need-returns Inv-loop μ-loop
@@ -91,15 +96,14 @@ put-rows-spec =
     loop-holds
     (λ c. search needs)
     (λ c. search needs)
-    (λ c. search needs)
-    (λ c. let fits = room (c .before) in omega (arith, fits .0, fits .1))
-    (λ c. let fits = room (c .before) in omega (arith, fits .0, fits .1))
-    (λ c. let fits = room (c .before) in omega (arith, fits .0, fits .1))
+    (λ c κs. search needs)
+    (λ c. omega (arith, few c, small (c .before .before)))
+    (λ c. let fits = room (c .before .before) in omega (arith, fits .0, fits .1))
+    (λ c. let fits = room (c .before .before) in omega (arith, fits .0, fits .1))
+    (λ c. let fits = room (c .before .before) in omega (arith, fits .0, fits .1))
     (λ c. search needs)
     put-statement-requires
     add-at
-    (λ c κs. search needs)
-    (λ c. omega (arith, few c))
     (λ c. search needs)
     (λ c. search needs)
     loop-again

@@ -80,7 +80,7 @@ put-statement-spec =
     (λ c. search needs) put-one-requires-3
     (λ c. search needs) put-one-requires-4
     (λ c. search needs) put-each-requires
-    (λ c. search needs) put-one-requires-5
+    (λ c. search needs) (λ c. search needs) put-one-requires-5
     (λ c. search needs) put-each-requires-2
     (λ c. search needs) put-each-requires-3
     (λ c. search needs) put-each-requires-4

@@ -1,0 +1,8 @@
+-- The contract of the reduction leaves one result and one buffer.
+use denote.Ref.{now}
+use Rattle.lent.specs.OneOutcome.{OneOutcome}
+use Rattle.question.proofs.OneResultLaws.{both}
+use Rattle.reduction.proofs.reducing.reduce.Reads as reduce
+
+reduce-one : OneOutcome reduce.Learnt (λ κs exit. now (exit .1 .0))
+reduce-one κs given x y s t p q = (both (p .0) (q .0), both (p .1) (q .1))
