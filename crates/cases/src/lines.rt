@@ -1,46 +1,74 @@
-// How a case and its outcome are printed: one line each.
-use judge::Judgement;
-use libc::STDOUT_FILENO;
-use question::Refusal;
-use question::TableCheck;
+// A case as it stands on its line: a letter, then bytes in hexadecimal, in up to three groups with / between.
+ghost use Prim.Native.Nat.{_≤_};
+ghost use lib.ListN.{length};
+ghost use mathlib.Core.Path.{_≡_};
 
-pub fn text(words: &[u8]) {
-    io::write_all(STDOUT_FILENO, words);
+// Where the next group starts on the line, and where the bytes of this one end.
+pub struct Decoded {
+    pub next: usize,
+    pub total: usize,
 }
 
-pub fn number(n: usize) {
-    io::print_decimal(STDOUT_FILENO, n as u64);
-}
-
-pub fn refusal(r: Refusal) {
-    let n = r.number;
-    let place = r.place;
-    text(b"refused ");
-    number(n as usize);
-    text(b" at ");
-    number(place);
-}
-
-pub fn check(label: &[u8], c: TableCheck) {
-    text(label);
-    text(b": ");
-    match c {
-        TableCheck::Accepted => text(b"accepted"),
-        TableCheck::Refused(r) => refusal(r),
+// The value of a digit, or 16 for anything else.
+fn digit(b: u8) -> u8 {
+    if b < b'0' {
+        return 16;
     }
-    text(b"\n");
+    if b <= b'9' {
+        return b - b'0';
+    }
+    if b < b'A' {
+        return 16;
+    }
+    if b <= b'F' {
+        return b - b'A' + 10;
+    }
+    16
 }
 
-pub fn judgement(label: &[u8], j: Judgement) {
-    text(label);
-    text(b": ");
-    match j {
-        Judgement::Yes => text(b"yes"),
-        Judgement::No(i) => {
-            text(b"no ");
-            number(i);
+// The byte that two digits say, or 0 where they aren't two.
+fn byte(high: u8, low: u8) -> u8 {
+    let h = digit(high);
+    let l = digit(low);
+    if h < 16 {
+        if l < 16 {
+            return h * 16 + l;
         }
-        Judgement::Refused(r) => refusal(r),
     }
-    text(b"\n");
+    0
+}
+
+// The bytes of the group that starts at `from`, into a lent buffer from `at` on; what doesn't fit is left out.
+pub fn decode(line: &[u8], from: usize, at: usize, bytes: &mut [u8]) -> Decoded
+    requires { ⌜ at ≤ length (now bytes) ⌝ }
+    ensures { λ r. ⌜ (at ≤ r .total) × (r .total ≤ length (now (bytes .entry))) × (length (now (bytes .exit)) ≡ length (now (bytes .entry))) ⌝ }
+{
+    let mut total = at;
+    let mut i = from;
+    while i < line.len() {
+        let b = line[i];
+        if b == b'/' {
+            return Decoded {
+                next: i + 1,
+                total: total,
+            };
+        }
+        if b == b' ' {
+            i += 1;
+            continue;
+        }
+        if line.len() - i < 2 {
+            break;
+        }
+        if bytes.len() <= total {
+            break;
+        }
+        bytes[total] = byte(b, line[i + 1]);
+        total += 1;
+        i += 2;
+    }
+    Decoded {
+        next: line.len(),
+        total: total,
+    }
 }

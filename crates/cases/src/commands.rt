@@ -1,0 +1,98 @@
+// What a case asks for, by its letter.
+ghost use mathlib.Core.Path.{_≡_};
+ghost use Prim.Native.Nat.{_≤_};
+ghost use lib.ListN.{length};
+use crate::lines::decode;
+use crate::models::model;
+use crate::outcomes;
+use crate::tables::byte_at;
+use crate::tables::table;
+use judge::judge;
+use question::check;
+use reduction::Reduced;
+use reduction::reduce;
+
+// T: the check of a table.
+fn check_table(bytes: &[u8]) {
+    outcomes::check(check(table(bytes)));
+}
+
+// J: a table and a model, judged.
+fn judge_model(bytes: &[u8], points: &[u8], memberships: &[u8]) {
+    outcomes::judgement(judge(table(bytes), model(points, memberships)));
+}
+
+// Room for 768 rows, or for as many as the group says.
+fn room(group: &[u8]) -> usize
+    ensures { λ r. ⌜ r ≤ 768 ⌝ }
+{
+    if group.len() == 0 {
+        return 768;
+    }
+    byte_at(group, 0) as usize
+}
+
+fn space() -> [u32; 768]
+    ensures { λ r. ⌜ 768 ≡ length r ⌝ }
+{
+    [0; 768]
+}
+
+fn reduce_into(bytes: &[u8], rows: &mut [u32]) {
+    let answer = reduce(table(bytes), rows);
+    match answer {
+        Reduced::Rows(count) => {
+            if count <= rows.len() {
+                outcomes::rows(&rows[0..count]);
+            }
+        }
+        Reduced::Refused(r) => outcomes::refusal(r),
+    }
+}
+
+// R: the rows of a table.
+fn reduce_table(bytes: &[u8], group: &[u8]) {
+    let mut rows = space();
+    let n = room(group);
+    reduce_into(bytes, &mut rows[0..n]);
+}
+
+fn run_case(letter: u8, first: &[u8], second: &[u8], third: &[u8]) {
+    match letter {
+        b'T' => check_table(first),
+        b'J' => judge_model(first, second, third),
+        b'R' => reduce_table(first, second),
+        _ => outcomes::text(b"no such case"),
+    }
+    outcomes::text(b"\n");
+}
+
+// The case whose bytes have their groups end at `first`, `second` and `total`.
+fn run_groups(letter: u8, bytes: &[u8], first: usize, second: usize, total: usize)
+    requires { ⌜ (first ≤ second) × (second ≤ total) × (total ≤ length (now bytes)) ⌝ }
+{
+    run_case(
+        letter,
+        &bytes[0..first],
+        &bytes[first..second],
+        &bytes[second..total],
+    );
+}
+
+pub fn run_line(line: &[u8]) {
+    if line.len() == 0 {
+        outcomes::text(b"\n");
+        return;
+    }
+    let letter = line[0];
+    if letter == b'#' {
+        outcomes::text(line);
+        outcomes::text(b"\n");
+        return;
+    }
+    let mut bytes = io::buffer();
+    let first = decode(line, 1, 0, &mut bytes);
+    let second = decode(line, first.next, first.total, &mut bytes);
+    let third = decode(line, second.next, second.total, &mut bytes);
+    run_groups(letter, &bytes, first.total, second.total, third.total);
+}
