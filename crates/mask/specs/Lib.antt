@@ -1,0 +1,7 @@
+-- The definitions that the contracts cite: rows in force, then the search with reasons, first for numbers to any base.
+pub mod InForce
+pub mod Tests
+pub mod Reasons
+pub mod Blames
+pub mod Trials
+pub mod Masks

@@ -1,0 +1,54 @@
+// The smallest mask of a class of terms: a loop over the masks worth a trial, each put to the rows in order.
+use crate::blames::blame;
+use crate::tests::meets;
+use crate::trials::Trial;
+use crate::trials::next_mask;
+ghost use mathlib.Core.Path.{_≡_};
+ghost use mathlib.Core.List.{map};
+ghost use Prim.Native.Nat.{_^_, min};
+ghost use Rattle.row.specs.Rows.{rowOf};
+ghost use Rattle.mask.specs.InForce.{leastMask};
+ghost use Rattle.mask.specs.Masks.{smallestOf};
+
+pub enum Smallest {
+    At(u32),
+    Nothing,
+}
+
+// How many bits a mask has: one for each set, and at most 32.
+fn width(sets: u8) -> u8
+    ensures { λ r. ⌜ r ≡ min sets 32 ⌝ }
+{
+    if 32 < sets { 32 } else { sets }
+}
+
+// The smallest mask of the class (a set of terms) under the rows in force, where the first `placed` terms are placed; a mask has at most 32 bits.
+// Masks are tried upward. The first row that a mask fails says which bits are to blame, and masks that would fail for the same reason are left out.
+pub fn smallest_mask(rows: &[u32], class: u32, placed: u32, sets: u8) -> Smallest
+    ensures { λ r. ⌜ r ≡ smallestOf (leastMask (2 ^ min sets 32) (map rowOf (now (rows .entry))) class placed) ⌝ }
+{
+    let bits = width(sets);
+    let mut m: u32 = 0;
+    let mut why = [0u32; 32];
+    'masks: loop {
+        let mut i: usize = 0;
+        let decided = 'rows: loop {
+            if i >= rows.len() {
+                break 'masks Smallest::At(m);
+            }
+            let row = rows[i];
+            if !meets(row, class, placed, m) {
+                break 'rows blame(row, m);
+            }
+            i += 1;
+        };
+        match next_mask(m, &mut why, decided, bits) {
+            Trial::Next(next) => {
+                m = next;
+            }
+            Trial::Over => {
+                break 'masks Smallest::Nothing;
+            }
+        }
+    }
+}
