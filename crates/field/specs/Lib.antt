@@ -1,0 +1,4 @@
+-- The definitions that the contracts cite.
+pub mod Tags
+pub mod Heads
+pub mod Writes
