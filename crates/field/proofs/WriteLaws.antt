@@ -7,7 +7,7 @@ use native.Mathlib.Omega.{arith}
 use borrow.Author.Tests.{le-leb, lt-leb}
 use lib.ListN.{length}
 use Rattle.field.specs.Heads.{fieldBytes}
-use Rattle.lent.specs.Over.{over}
+use Rattle.outcome.specs.Over.{over}
 use Rattle.field.specs.Writes.{longestBody, fieldFits, fieldCount, fieldOver}
 
 module _ (tag : ℕ) (body old : List ℕ) where

@@ -1,6 +1,6 @@
 -- The contract of the judge leaves one result.
-use Rattle.question.specs.OneResult.{OneResult}
-use Rattle.question.proofs.OneResultLaws.{both}
+use Rattle.outcome.specs.OneResult.{OneResult}
+use Rattle.outcome.proofs.OneLaw.{both}
 use Rattle.judge.proofs.judging.judge.Reads as judge
 
 judge-one : OneResult judge.Learnt

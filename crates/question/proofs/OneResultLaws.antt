@@ -1,6 +1,6 @@
--- Each public contract of this crate leaves one result. One law serves them all: two results that equal the same value are equal.
-use mathlib.Core.Path.{_≡_, sym, _∙_}
-use Rattle.question.specs.OneResult.{OneResult}
+-- Each public contract of this crate leaves one result.
+use Rattle.outcome.specs.OneResult.{OneResult}
+use Rattle.outcome.proofs.OneLaw.{both}
 use Rattle.question.proofs.refusals.Refusal.new.Reads as new
 use Rattle.question.proofs.questions.Question.empty.Reads as empty
 use Rattle.question.proofs.statements.Statement.tag.Reads as tag
@@ -9,9 +9,6 @@ use Rattle.question.proofs.admissions.admit.Reads as admit
 use Rattle.question.proofs.checks.witness_of.Reads as witness-of
 use Rattle.question.proofs.checks.check.Reads as check
 use Rattle.question.proofs.checks.terms.Reads as terms
-
-pub both : {A : Type 0} {x y z : A} → x ≡ z → y ≡ z → x ≡ y
-both p q = p ∙ sym q
 
 new-one : OneResult new.Learnt
 new-one κs given x y s t = both

@@ -7,4 +7,3 @@ pub mod Admissions
 pub mod Checks
 pub mod Masks
 pub mod Meaning
-pub mod OneResult

@@ -1,7 +1,7 @@
 -- The contract of the reduction leaves one result and one buffer.
 use denote.Ref.{now}
-use Rattle.lent.specs.OneOutcome.{OneOutcome}
-use Rattle.question.proofs.OneResultLaws.{both}
+use Rattle.outcome.specs.OneOutcome.{OneOutcome}
+use Rattle.outcome.proofs.OneLaw.{both}
 use Rattle.reduction.proofs.reducing.reduce.Reads as reduce
 
 reduce-one : OneOutcome reduce.Learnt (λ κs exit. now (exit .1 .0))

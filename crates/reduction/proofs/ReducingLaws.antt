@@ -8,7 +8,7 @@ use lib.ListN.{length, getD, drop, length-append, length-map}
 use Rattle.question.specs.declared.statements.Statement.{Statement}
 use Rattle.question.specs.declared.questions.Record.{Record}
 use Rattle.question.specs.declared.questions.Question.{Question}
-use Rattle.lent.specs.Over.{over}
+use Rattle.outcome.specs.Over.{over}
 use Rattle.question.specs.Limits.{maxRows}
 use Rattle.question.specs.Refusals.{refusal, bufferTooShort}
 use Rattle.question.specs.Questions.{statements, witness, termsOf}

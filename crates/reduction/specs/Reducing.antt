@@ -4,7 +4,7 @@ use mathlib.Core.Bool.{cond}
 use mathlib.Core.List.{List, map}
 use lib.Dec.{ltb}
 use lib.ListN.{length}
-use Rattle.lent.specs.Over.{over}
+use Rattle.outcome.specs.Over.{over}
 use Rattle.question.specs.declared.questions.Question.{Question}
 use Rattle.question.specs.declared.checks.TableCheck.{TableCheck}
 use Rattle.question.specs.declared.checks.TableCheck.the-variants.{Accepted, Refused as TableRefused}

@@ -10,7 +10,7 @@ use question::witness_of;
 ghost use mathlib.Core.Path.{_≡_};
 ghost use Prim.Native.Nat.{_≤_};
 ghost use lib.ListN.{length};
-ghost use Rattle.lent.specs.Over.{over};
+ghost use Rattle.outcome.specs.Over.{over};
 ghost use Rattle.question.specs.Questions.{termsOf};
 ghost use Rattle.question.specs.Checks.{IsAccepted};
 ghost use Rattle.reduction.specs.Writing.{statementRows};

@@ -1,6 +1,6 @@
 -- Each public contract of this crate leaves one result.
-use Rattle.question.specs.OneResult.{OneResult}
-use Rattle.question.proofs.OneResultLaws.{both}
+use Rattle.outcome.specs.OneResult.{OneResult}
+use Rattle.outcome.proofs.OneLaw.{both}
 use Rattle.row.proofs.parts.pack.Reads as pack
 use Rattle.row.proofs.parts.unpack.Reads as unpack
 use Rattle.row.proofs.checks.check_rows.Reads as check-rows

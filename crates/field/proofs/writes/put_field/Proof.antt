@@ -5,7 +5,7 @@ use mathlib.Core.Path.{refl, sym, _∙_}
 use mathlib.Core.List.{[], _∷_}
 use borrow.Author.Needs.{needs}
 use lib.ListN.{length}
-use Rattle.lent.proofs.OverLaws.{behind}
+use Rattle.outcome.proofs.OverLaws.{behind}
 use Rattle.field.proofs.WriteLaws.{written, too-long, no-room}
 use Rattle.field.proofs.writes.put_field.Statement.{statement}
 use Rattle.field.proofs.writes.put_field.Tie as tie

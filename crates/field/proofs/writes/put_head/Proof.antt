@@ -3,7 +3,7 @@ use denote.Ref.{now}
 use native.Mathlib.Omega.{arith}
 use borrow.Author.Needs.{needs}
 use lib.ListN.{length-set}
-use Rattle.lent.proofs.OverLaws.{three}
+use Rattle.outcome.proofs.OverLaws.{three}
 use Rattle.field.proofs.writes.put_head.Statement.{statement}
 use Rattle.field.proofs.writes.put_head.Tie as tie
 

@@ -8,7 +8,7 @@ use borrow.Author.Needs.{needs}
 use lib.ListN.{length, getD, length-take, length-drop, length-append}
 use Rattle.question.specs.Questions.{idle, witness}
 use Rattle.question.proofs.StatementsLaws.{witness-small, table-long}
-use Rattle.lent.proofs.OverLaws.{Run, run-start, run-room, run-next, run-end}
+use Rattle.outcome.proofs.OverLaws.{Run, run-start, run-room, run-next, run-end}
 use Rattle.reduction.specs.Writing.{statementRows}
 use Rattle.reduction.specs.Reducing.{packedRows}
 use Rattle.reduction.proofs.ReducingLaws.{rowsFrom, from-turn, from-end, packed-from}

@@ -6,8 +6,8 @@ use native.Mathlib.Omega.{arith}
 use borrow.Author.Needs.{needs}
 use lib.ListN.{length, take, length-set}
 use lib.Seq.{take-all}
-use Rattle.lent.specs.Over.{over}
-use Rattle.lent.proofs.OverLaws.{copied-in}
+use Rattle.outcome.specs.Over.{over}
+use Rattle.outcome.proofs.OverLaws.{copied-in}
 use Rattle.reduction.specs.Writing.{eachTerm}
 use Rattle.reduction.proofs.WritingLaws.{each-length, each-at}
 use Rattle.reduction.proofs.writing.put_each.Statement.{statement}

@@ -2,7 +2,7 @@
 use denote.Ref.{now}
 use mathlib.Core.Path.{refl}
 use borrow.Author.Needs.{needs}
-use Rattle.lent.proofs.OverLaws.{first-stored}
+use Rattle.outcome.proofs.OverLaws.{first-stored}
 use Rattle.reduction.proofs.writing.put_one.Statement.{statement}
 use Rattle.reduction.proofs.writing.put_one.Tie as tie
 

@@ -1,2 +1,0 @@
--- The laws of writing from the front.
-pub mod OverLaws

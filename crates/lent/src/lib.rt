@@ -1,1 +1,0 @@
-// No code: what a lent buffer holds after a call, and what it means that a contract leaves one outcome.

@@ -1,0 +1,3 @@
+-- The laws of writing from the front, and the one by which contracts leave one outcome.
+pub mod OneLaw
+pub mod OverLaws
