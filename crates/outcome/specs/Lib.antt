@@ -2,3 +2,4 @@
 pub mod Over
 pub mod OneResult
 pub mod OneOutcome
+pub mod Calls
