@@ -1,0 +1,98 @@
+-- All terms are placed: the masks of the classes one after another, as far as they go.
+use Prim.Native.Nat.{ℕ, _+_, _^_, _≤_, _<_}
+use mathlib.Core.Path.{_≡_, refl, sym, ap, subst, _∙_}
+use mathlib.Core.List.{List, map}
+use mathlib.Core.Option.{Option, none, some, Option·map, Option·none-ne-some, Option·some-ne-none, Option·some-injective}
+use native.Mathlib.Omega.{arith}
+use native.Mathlib.Decide.{decLt}
+use lib.Dec.{T}
+use lib.ListN.{length, getD, take, set}
+use lib.Seq.{ext-getD, getD-take, length-take-le, getD-set-same, getD-set-other}
+use Rattle.question.specs.Limits.{maxTerms}
+use Rattle.theory.specs.Arrangements.{classes}
+use Rattle.theory.specs.Searches.{eachFrom}
+use Rattle.theory.specs.Solutions.{Solution, withMasks, allRows}
+use Rattle.theory.specs.FirstModels.{smallestMask, modelOf}
+use Rattle.theory.specs.Sets.{fits, rowDeclared}
+use Rattle.theory.proofs.SearchLaws.{EachIs, eachFrom-is}
+use Rattle.theory.proofs.RowListLaws.{declared-below}
+use Rattle.theory.proofs.RuleLaws.{TermsBelow}
+use Rattle.row.specs.Rows.{rowOf}
+use Rattle.cut.specs.Members.{members, othersPlaced}
+use Rattle.cut.proofs.InForceLaws.{declared-others}
+use Rattle.cut.proofs.WholeLaws.{mask-whole}
+use Rattle.search.specs.declared.answers.Verdict.the-variants.{Possible, Impossible}
+use Rattle.search.specs.declared.answers.SearchAnswer.{SearchAnswer}
+use Rattle.search.specs.Answers.{withoutModel, answerOf, padded}
+use Rattle.search.specs.Placings.{Placing}
+use Rattle.search.specs.Memos.{maskOfClass}
+use Rattle.search.proofs.PlacingLaws.{RestZero, rest-padded, placed-length, placing-padded}
+
+-- a value for each number, or one without
+module _ (n : ℕ) (test : ℕ → Option ℕ) where
+  each-none : (k : ℕ) → k < n → test k ≡ none → eachFrom n 0 test ≡ none
+  each-none k lt e = go (eachFrom n 0 test) (eachFrom-is n 0 test 0)
+    where
+      go : (o : Option (List ℕ)) → EachIs n 0 test 0 o → o ≡ none
+      go none h = refl
+      go (some l) h = absurd (Option·none-ne-some (getD l k 0) (sym e ∙ ap test (omega arith) ∙ h .1 k lt))
+
+  each-some : (l : List ℕ) → length l ≡ n → ((k : ℕ) → k < n → test k ≡ some (getD l k 0)) → eachFrom n 0 test ≡ some l
+  each-some l long e = go (eachFrom n 0 test) (eachFrom-is n 0 test 0)
+    where
+      go : (o : Option (List ℕ)) → EachIs n 0 test 0 o → o ≡ some l
+      go none h = absurd (Option·some-ne-none (getD l (h .0) 0) (sym (e (h .0) (omega arith)) ∙ h .3))
+      go (some m) h = ap (λ (x : List ℕ). some x) (ext-getD 0 m l (h .0 ∙ sym long)
+          (λ k lt. let inside : k < n = omega (arith, h .0) in Option·some-injective (getD m k 0) (getD l k 0) (sym (h .1 k inside) ∙ ap test (omega arith) ∙ e k inside)))
+
+-- the smallest mask of each class of the arrangement l
+abbrev smallest : List ℕ → ℕ → List ℕ → ℕ → Option ℕ
+smallest rows sets l = smallestMask fits (2 ^ sets) (map rowOf rows) l
+
+-- the masks of its first k classes
+abbrev pub MasksTo : List ℕ → ℕ → List ℕ → ℕ → List ℕ → Type 0
+MasksTo rows sets l k masks = (i : ℕ) → i < k → smallest rows sets l i ≡ some (getD masks i 0)
+
+pub no-masks-yet : (rows : List ℕ) (sets : ℕ) (l masks : List ℕ) → MasksTo rows sets l 0 masks
+no-masks-yet rows sets l masks i lt = absurd (omega arith)
+
+module _ (rows : List ℕ) (sets : ℕ) (arrangement : List ℕ) (terms used : ℕ) (here : Placing arrangement terms used) (declared : T (allRows (rowDeclared terms sets) (map rowOf rows))) where
+  -- the arrangement
+  abbrev l : List ℕ
+  l = take terms arrangement
+
+  smallest-is : (k : ℕ) → smallest rows sets l k ≡ maskOfClass rows sets (members l k) terms
+  smallest-is k = mask-whole l k (2 ^ sets) (map rowOf rows) (subst (λ n. TermsBelow n (map rowOf rows)) (sym (placed-length here)) (declared-below terms sets (map rowOf rows) declared))
+      (subst (λ n. T (othersPlaced n (map rowOf rows))) (sym (placed-length here)) (declared-others terms sets (map rowOf rows) declared))
+      ∙ ap (maskOfClass rows sets (members l k)) (placed-length here)
+
+  module _ (k class : ℕ) (is : class ≡ members l k) where
+    -- a class has none
+    pub leaf-none : (r : SearchAnswer) → k < used → maskOfClass rows sets class terms ≡ none → r ≡ withoutModel Impossible → r ≡ answerOf (modelOf fits (2 ^ sets) (map rowOf rows) l)
+    unfolding modelOf answerOf
+    leaf-none r lt e i = i ∙ ap (λ o. answerOf (Option·map (withMasks l) o)) (sym (each-none (classes l) (smallest rows sets l) k (omega (arith, here .counted)) (smallest-is k ∙ ap (λ c. maskOfClass rows sets c terms) (sym is) ∙ e)))
+
+    -- one mask more
+    pub leaf-more : (masks : List ℕ) (m : ℕ) → k < length masks → maskOfClass rows sets class terms ≡ some m → MasksTo rows sets l k masks → MasksTo rows sets l (k + 1) (set masks k m)
+    leaf-more masks m lt e before i h = go (decLt i k)
+      where
+        go : Dec (i < k) → smallest rows sets l i ≡ some (getD (set masks k m) i 0)
+        go (yes p) = before i p ∙ ap (λ (x : ℕ). some x) (sym (getD-set-other masks k i m 0 (λ q. omega arith)))
+        go (no p) = let q : i ≡ k = omega arith in
+            ap (smallest rows sets l) q ∙ smallest-is k ∙ ap (λ c. maskOfClass rows sets c terms) (sym is) ∙ e ∙ ap (λ (x : ℕ). some x) (sym (ap (λ j. getD (set masks k m) j 0) q ∙ getD-set-same masks k m 0 lt))
+
+  -- every class has one
+  pub leaf-all : (masks : List ℕ) (r : SearchAnswer) → length masks ≡ maxTerms → RestZero used masks → MasksTo rows sets l used masks →
+      r ≡ record { verdict = Possible; classes = used; arrangement = arrangement; masks = masks } → r ≡ answerOf (modelOf fits (2 ^ sets) (map rowOf rows) l)
+  unfolding modelOf answerOf
+  leaf-all masks r long zero-rest each i = i ∙ shown ∙ ap (λ o. answerOf (Option·map (withMasks l) o)) (sym all)
+    where
+      few : used ≤ maxTerms
+      few = omega (arith, here .few-classes, here .few-terms)
+
+      all : eachFrom (classes l) 0 (smallest rows sets l) ≡ some (take used masks)
+      all = each-some (classes l) (smallest rows sets l) (take used masks) (length-take-le used masks (omega arith) ∙ here .counted)
+          (λ k lt. let inside : k < used = omega (arith, here .counted) in each k inside ∙ ap (λ (x : ℕ). some x) (sym (getD-take used masks k 0 inside)))
+
+      shown : record { verdict = Possible; classes = used; arrangement = arrangement; masks = masks } ≡ answerOf (some (withMasks l (take used masks)))
+      shown = cc (here .counted, placing-padded here, rest-padded masks used long few zero-rest)

@@ -1,0 +1,4 @@
+-- The definitions that the contracts cite: first those of the public one, then those of the steps inside.
+pub mod Answers
+pub mod Placings
+pub mod Memos

@@ -1,0 +1,43 @@
+// What the search answers: the verdict, and beside it the first model.
+use question::Refusal;
+ghost use mathlib.Core.Path.{_≡_};
+ghost use Rattle.search.specs.Answers.{isPossible, withoutModel};
+
+pub enum Verdict {
+    Possible,
+    Impossible,
+    Refused(Refusal),
+}
+
+pub struct SearchAnswer {
+    pub verdict: Verdict,
+    // How many classes there are, the class number of each term, and the mask of each class. Entries past the counts are 0.
+    pub classes: usize,
+    pub arrangement: [u8; 12],
+    pub masks: [u32; 12],
+}
+
+// The answer where there is no model to show.
+pub(crate) fn without_model(verdict: Verdict) -> SearchAnswer
+    ensures { λ r. ⌜ r ≡ withoutModel verdict ⌝ }
+{
+    let arrangement: [u8; 12] = [0; 12];
+    let masks: [u32; 12] = [0; 12];
+    SearchAnswer {
+        verdict: verdict,
+        classes: 0,
+        arrangement: arrangement,
+        masks: masks,
+    }
+}
+
+// Is there a model to show.
+pub(crate) fn is_possible(verdict: Verdict) -> bool
+    ensures { λ r. ⌜ r ≡ isPossible verdict ⌝ }
+{
+    match verdict {
+        Verdict::Possible => true,
+        Verdict::Impossible => false,
+        Verdict::Refused(_) => false,
+    }
+}

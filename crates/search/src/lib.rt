@@ -1,0 +1,13 @@
+// The search: rows that are handed in are checked, and then their first model is found, or that there is none.
+mod answers;
+mod classes;
+mod cuts;
+mod memos;
+mod models;
+mod others;
+mod placings;
+mod searches;
+
+pub use answers::SearchAnswer;
+pub use answers::Verdict;
+pub use searches::search;

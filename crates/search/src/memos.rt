@@ -1,0 +1,49 @@
+// Has a class a mask: asked of the memo first, and noted there.
+use mask::Smallest;
+use mask::smallest_mask;
+ghost use mathlib.Core.Path.{_≡_};
+ghost use Prim.Native.Nat.{_^_, _≤_, _<_, _+_};
+ghost use Rattle.question.specs.Limits.{maxSets, maxTerms};
+ghost use Rattle.search.specs.Memos.{maskOfClass, isThere, classCount, Noting, Memo};
+
+// The memo's byte at `at` is about this class, a set of terms, under the rows whose other term is among the first `placed`.
+pub(crate) fn has_mask(
+    rows: &[u32],
+    memo: &mut [u8],
+    at: usize,
+    class: u32,
+    placed: u32,
+    sets: u8,
+) -> bool
+    requires { ⌜ sets ≤ maxSets ⌝ }
+    requires { ⌜ Memo (now rows) sets (now memo) ⌝ }
+    requires { ⌜ Noting at class placed ⌝ }
+    ensures { λ r. ⌜ r ≡ isThere (maskOfClass (now (rows .entry)) sets class placed) ⌝ }
+    ensures { λ r. ⌜ Memo (now (rows .entry)) sets (now (memo .exit)) ⌝ }
+{
+    let note = memo[at];
+    if note != 0 {
+        return note == 2;
+    }
+    match smallest_mask(rows, class, placed, sets) {
+        Smallest::At(_) => {
+            memo[at] = 2;
+            true
+        }
+        Smallest::Nothing => {
+            memo[at] = 1;
+            false
+        }
+    }
+}
+
+// The same under all rows.
+pub(crate) fn has_mask_at_all(rows: &[u32], memo: &mut [u8], class: u32, sets: u8) -> bool
+    requires { ⌜ sets ≤ maxSets ⌝ }
+    requires { ⌜ Memo (now rows) sets (now memo) ⌝ }
+    requires { ⌜ class < classCount ⌝ }
+    ensures { λ r. ⌜ r ≡ isThere (maskOfClass (now (rows .entry)) sets class maxTerms) ⌝ }
+    ensures { λ r. ⌜ Memo (now (rows .entry)) sets (now (memo .exit)) ⌝ }
+{
+    has_mask(rows, memo, class as usize + 4096, class, 12, sets)
+}

@@ -1,0 +1,46 @@
+// The other terms that rows name: from when on they are all placed.
+use row::unpack;
+ghost use mathlib.Core.List.{map};
+ghost use lib.Dec.{T};
+ghost use Rattle.row.specs.Rows.{rowOf};
+ghost use Rattle.mask.specs.InForce.{otherPlaced};
+ghost use Rattle.cut.specs.Members.{othersPlaced};
+
+// So many of the first terms that the other term of the row, if it names one, is among them.
+fn other_within(row: u32) -> usize
+    ensures { λ r. ⌜ T (otherPlaced r (rowOf row .test)) ⌝ }
+{
+    let p = unpack(row);
+    let kind = p.kind;
+    let first = p.first as usize + 1;
+    let second = p.second as usize + 1;
+    match kind {
+        0 => first,
+        1 => first,
+        2 => 0,
+        3 => 0,
+        4 => 0,
+        5 => 0,
+        6 => second,
+        7 => 0,
+        8 => 0,
+        9 => 0,
+        _ => first,
+    }
+}
+
+// So many that the other term of each row is.
+pub(crate) fn others_within(rows: &[u32]) -> usize
+    ensures { λ r. ⌜ T (othersPlaced r (map rowOf (now (rows .entry)))) ⌝ }
+{
+    let mut n: usize = 0;
+    let mut i: usize = 0;
+    while i < rows.len() {
+        let one = other_within(rows[i]);
+        if n < one {
+            n = one;
+        }
+        i += 1;
+    }
+    n
+}

@@ -1,0 +1,68 @@
+// The arrangement is built one term at a time: a recursion over the terms still to be placed, each call trying the class numbers allowed.
+use crate::answers::SearchAnswer;
+use crate::answers::Verdict;
+use crate::answers::is_possible;
+use crate::answers::without_model;
+use crate::cuts::hopeless;
+use crate::models::model;
+ghost use mathlib.Core.Path.{_≡_};
+ghost use mathlib.Core.List.{map};
+ghost use Prim.Native.Nat.{_+_, _≤_, max};
+ghost use lib.Dec.{T};
+ghost use Rattle.question.specs.Limits.{maxSets, maxTerms};
+ghost use Rattle.theory.specs.Solutions.{allRows};
+ghost use Rattle.theory.specs.Sets.{rowDeclared};
+ghost use Rattle.row.specs.Rows.{rowOf};
+ghost use Rattle.cut.specs.Members.{othersPlaced};
+ghost use Rattle.search.specs.Answers.{answerOf};
+ghost use Rattle.search.specs.Placings.{Placing, found};
+ghost use Rattle.search.specs.Memos.{Memo};
+
+// How many classes stand after a term of class c, where `used` stood before.
+fn classes_with(used: u8, c: u8) -> u8
+    requires { ⌜ c ≤ maxTerms ⌝ }
+    ensures { λ r. ⌜ r ≡ max used (c + 1) ⌝ }
+{
+    if used < c + 1 { c + 1 } else { used }
+}
+
+// `left` terms are still to be placed, the first `placed` stand in `used` classes, and `others` is enough for the other terms of all rows.
+pub(crate) fn place(
+    rows: &[u32],
+    memo: &mut [u8],
+    arrangement: [u8; 12],
+    placed: usize,
+    left: usize,
+    used: u8,
+    others: usize,
+    sets: u8,
+) -> SearchAnswer
+    requires { ⌜ sets ≤ maxSets ⌝ }
+    requires { ⌜ T (allRows (rowDeclared (placed + left) sets) (map rowOf (now rows))) ⌝ }
+    requires { ⌜ T (othersPlaced others (map rowOf (now rows))) ⌝ }
+    requires { ⌜ Memo (now rows) sets (now memo) ⌝ }
+    requires { ⌜ Placing arrangement placed used ⌝ }
+    requires { ⌜ placed + left ≤ maxTerms ⌝ }
+    ensures { λ r. ⌜ r ≡ answerOf (found (now (rows .entry)) sets arrangement placed left) ⌝ }
+    ensures { λ r. ⌜ Memo (now (rows .entry)) sets (now (memo .exit)) ⌝ }
+{
+    if hopeless(rows, memo, arrangement, placed, left, used, others, sets) {
+        return without_model(Verdict::Impossible);
+    }
+    if left == 0 {
+        return model(rows, arrangement, placed, used, sets);
+    }
+    let mut c: u8 = 0;
+    while c <= used {
+        let mut next = arrangement;
+        next[placed] = c;
+        let more = classes_with(used, c);
+        let r = place(rows, memo, next, placed + 1, left - 1, more, others, sets);
+        let verdict = r.verdict;
+        if is_possible(verdict) {
+            return r;
+        }
+        c += 1;
+    }
+    without_model(Verdict::Impossible)
+}

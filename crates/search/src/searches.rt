@@ -1,0 +1,38 @@
+// The search over rows that are handed in: the row check's refusals, else the first model.
+use crate::answers::SearchAnswer;
+use crate::answers::Verdict;
+use crate::answers::without_model;
+use crate::others::others_within;
+use crate::placings::place;
+use question::TableCheck;
+use row::check_rows;
+ghost use mathlib.Core.Path.{_≡_};
+ghost use mathlib.Core.List.{map};
+ghost use Prim.Native.Nat.{_^_};
+ghost use Rattle.question.specs.declared.checks.TableCheck.the-variants.{Accepted};
+ghost use Rattle.theory.specs.FirstModels.{firstModel};
+ghost use Rattle.theory.specs.Sets.{fits};
+ghost use Rattle.row.specs.Rows.{rowOf};
+ghost use Rattle.row.specs.Checks.{rowsChecked};
+ghost use Rattle.search.specs.Answers.{answerOf, searched};
+
+// Accepted rows.
+fn search_accepted(rows: &[u32], terms: usize, sets: u8) -> SearchAnswer
+    requires { ⌜ rowsChecked terms sets (now rows) ≡ Accepted ⌝ }
+    ensures { λ r. ⌜ r ≡ answerOf (firstModel fits terms (2 ^ sets) (map rowOf (now (rows .entry)))) ⌝ }
+{
+    let arrangement: [u8; 12] = [0; 12];
+    let mut memo: [u8; 8192] = [0; 8192];
+    let others = others_within(rows);
+    place(rows, &mut memo, arrangement, 0, terms, 0, others, sets)
+}
+
+// The first model of the rows over so many terms and sets, or that there is none, or why the rows are refused.
+pub fn search(rows: &[u32], terms: usize, sets: u8) -> SearchAnswer
+    ensures { λ r. ⌜ r ≡ searched terms sets (now (rows .entry)) ⌝ }
+{
+    match check_rows(rows, terms, sets) {
+        TableCheck::Refused(refusal) => without_model(Verdict::Refused(refusal)),
+        TableCheck::Accepted => search_accepted(rows, terms, sets),
+    }
+}
