@@ -3,14 +3,20 @@ ghost use mathlib.Core.Path.{_≡_};
 ghost use Prim.Native.Nat.{_≤_};
 ghost use lib.ListN.{length};
 use crate::lines::decode;
+use crate::models::fill_rows;
 use crate::models::model;
+use crate::models::model_of;
 use crate::outcomes;
 use crate::tables::byte_at;
 use crate::tables::table;
 use judge::judge;
+use question::Question;
 use question::check;
 use reduction::Reduced;
 use reduction::reduce;
+use search::SearchAnswer;
+use search::Verdict;
+use search::search;
 
 // T: the check of a table.
 fn check_table(bytes: &[u8]) {
@@ -32,10 +38,10 @@ fn room(group: &[u8]) -> usize
     byte_at(group, 0) as usize
 }
 
-fn space() -> [u32; 768]
-    ensures { λ r. ⌜ 768 ≡ length r ⌝ }
+fn space() -> [u32; 1024]
+    ensures { λ r. ⌜ 1024 ≡ length r ⌝ }
 {
-    [0; 768]
+    [0; 1024]
 }
 
 fn reduce_into(bytes: &[u8], rows: &mut [u32]) {
@@ -57,11 +63,56 @@ fn reduce_table(bytes: &[u8], group: &[u8]) {
     reduce_into(bytes, &mut rows[0..n]);
 }
 
+// S: T and S, and rows of four bytes each, searched.
+fn search_rows(limits: &[u8], bytes: &[u8]) {
+    let mut rows = space();
+    let n = fill_rows(bytes, &mut rows);
+    let terms = byte_at(limits, 0) as usize;
+    let sets = byte_at(limits, 1);
+    outcomes::search_answer(search(&rows[0..n], terms, sets), terms);
+}
+
+fn decide_in(q: Question, rows: &mut [u32]) {
+    let terms = question::terms(q);
+    let reduced = reduce(q, rows);
+    match reduced {
+        Reduced::Rows(count) => {
+            if count <= rows.len() {
+                let answer = search(&rows[0..count], terms, q.sets);
+                outcomes::search_answer(answer, terms);
+                judge_answer(q, answer);
+            }
+        }
+        Reduced::Refused(r) => outcomes::refusal(r),
+    }
+}
+
+// The model that the search found, judged.
+fn judge_answer(q: Question, answer: SearchAnswer) {
+    let verdict = answer.verdict;
+    match verdict {
+        Verdict::Possible => {
+            outcomes::text(b", judged ");
+            outcomes::judgement(judge(q, model_of(answer)));
+        }
+        Verdict::Impossible => {}
+        Verdict::Refused(_) => {}
+    }
+}
+
+// D: a table decided, and the model judged.
+fn decide(bytes: &[u8]) {
+    let mut rows = space();
+    decide_in(table(bytes), &mut rows[0..768]);
+}
+
 fn run_case(letter: u8, first: &[u8], second: &[u8], third: &[u8]) {
     match letter {
         b'T' => check_table(first),
         b'J' => judge_model(first, second, third),
         b'R' => reduce_table(first, second),
+        b'S' => search_rows(first, second),
+        b'D' => decide(first),
         _ => outcomes::text(b"no such case"),
     }
     outcomes::text(b"\n");

@@ -1,9 +1,14 @@
-// A model as it may be handed in: n and the elements, then four bytes a mask, high byte first.
+// Models and rows as they may be handed in, four bytes a mask or row, high byte first.
 use crate::tables::byte_at;
 use judge::Model;
+use search::SearchAnswer;
+ghost use Prim.Native.Nat.{_≤_};
+ghost use lib.ListN.{length};
+ghost use mathlib.Core.Path.{_≡_};
 
-fn mask_at(bytes: &[u8], i: usize) -> u32 {
-    if 12 <= i {
+// The number that the four bytes from 4 i on say.
+fn word_at(bytes: &[u8], i: usize) -> u32 {
+    if 1024 <= i {
         return 0;
     }
     let at = 4 * i;
@@ -26,16 +31,49 @@ fn masks(memberships: &[u8]) -> [u32; 12] {
     let mut masks = [0u32; 12];
     let mut i: usize = 0;
     while i < 12 {
-        masks[i] = mask_at(memberships, i);
+        masks[i] = word_at(memberships, i);
         i += 1;
     }
     masks
 }
 
+// n and the elements, then the masks.
 pub fn model(points: &[u8], memberships: &[u8]) -> Model {
     Model {
         size: byte_at(points, 0) as usize,
         elements: elements(points),
         masks: masks(memberships),
     }
+}
+
+// The model that the search found: a name's element is its class.
+pub fn model_of(answer: SearchAnswer) -> Model {
+    let arrangement = answer.arrangement;
+    let mut elements = [0u8; 8];
+    let mut i: usize = 0;
+    while i < 8 {
+        elements[i] = arrangement[i];
+        i += 1;
+    }
+    let masks = answer.masks;
+    Model {
+        size: answer.classes,
+        elements: elements,
+        masks: masks,
+    }
+}
+
+// The rows that some bytes say, and how many they are; what doesn't fit is left out.
+pub fn fill_rows(bytes: &[u8], rows: &mut [u32]) -> usize
+    ensures { λ r. ⌜ (r ≤ length (now (rows .entry))) × (length (now (rows .exit)) ≡ length (now (rows .entry))) ⌝ }
+{
+    let mut i: usize = 0;
+    while i < bytes.len() / 4 {
+        if rows.len() <= i {
+            return i;
+        }
+        rows[i] = word_at(bytes, i);
+        i += 1;
+    }
+    i
 }

@@ -3,6 +3,8 @@ use judge::Judgement;
 use libc::STDOUT_FILENO;
 use question::Refusal;
 use question::TableCheck;
+use search::SearchAnswer;
+use search::Verdict;
 
 pub fn text(words: &[u8]) {
     io::write_all(STDOUT_FILENO, words);
@@ -47,5 +49,45 @@ pub fn rows(rows: &[u32]) {
         text(b" ");
         io::print_hex(STDOUT_FILENO, rows[i] as u64, 6);
         i += 1;
+    }
+}
+
+// The class numbers of so many terms.
+fn class_numbers(arrangement: [u8; 12], terms: usize) {
+    let mut i: usize = 0;
+    while i < 12 {
+        if i < terms {
+            text(b" ");
+            number(arrangement[i] as usize);
+        }
+        i += 1;
+    }
+}
+
+// The masks of so many classes.
+fn class_masks(masks: [u32; 12], classes: usize) {
+    let mut i: usize = 0;
+    while i < 12 {
+        if i < classes {
+            text(b" ");
+            number(masks[i] as usize);
+        }
+        i += 1;
+    }
+}
+
+pub fn search_answer(answer: SearchAnswer, terms: usize) {
+    let verdict = answer.verdict;
+    let arrangement = answer.arrangement;
+    let masks = answer.masks;
+    match verdict {
+        Verdict::Possible => {
+            text(b"possible");
+            class_numbers(arrangement, terms);
+            text(b" /");
+            class_masks(masks, answer.classes);
+        }
+        Verdict::Impossible => text(b"impossible"),
+        Verdict::Refused(r) => refusal(r),
     }
 }
