@@ -12,6 +12,10 @@ use crate::tables::table;
 use judge::judge;
 use question::Question;
 use question::check;
+use question_file::FileCheck;
+use question_file::Written;
+use question_file::read_question;
+use question_file::write_question;
 use reduction::Reduced;
 use reduction::reduce;
 use search::SearchAnswer;
@@ -28,7 +32,39 @@ fn judge_model(bytes: &[u8], points: &[u8], memberships: &[u8]) {
     outcomes::judgement(judge(table(bytes), model(points, memberships)));
 }
 
-// Room for 768 rows, or for as many as the group says.
+fn write_into(q: Question, file: &mut [u8]) {
+    match write_question(q, file) {
+        Written::Bytes(count) => {
+            if count <= file.len() {
+                outcomes::text(b"file");
+                outcomes::bytes(&file[0..count]);
+            }
+        }
+        Written::Refused(r) => outcomes::refusal(r),
+    }
+}
+
+// F: a file read, and its question written again.
+fn read_file(bytes: &[u8]) {
+    let read = read_question(bytes);
+    let outcome = read.outcome;
+    match outcome {
+        FileCheck::Accepted => {
+            let mut file = io::buffer();
+            write_into(read.question, &mut file);
+        }
+        FileCheck::Refused(r) => outcomes::refusal(r),
+    }
+}
+
+// W: a table written.
+fn write_table(bytes: &[u8], group: &[u8]) {
+    let mut file = io::buffer();
+    let n = room(group);
+    write_into(table(bytes), &mut file[0..n]);
+}
+
+// Room for 768 rows or bytes, or for as many as the group says.
 fn room(group: &[u8]) -> usize
     ensures { λ r. ⌜ r ≤ 768 ⌝ }
 {
@@ -108,6 +144,8 @@ fn decide(bytes: &[u8]) {
 
 fn run_case(letter: u8, first: &[u8], second: &[u8], third: &[u8]) {
     match letter {
+        b'F' => read_file(first),
+        b'W' => write_table(first, second),
         b'T' => check_table(first),
         b'J' => judge_model(first, second, third),
         b'R' => reduce_table(first, second),

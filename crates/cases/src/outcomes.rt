@@ -52,6 +52,16 @@ pub fn rows(rows: &[u32]) {
     }
 }
 
+// The bytes of a file in two hexadecimal digits each.
+pub fn bytes(file: &[u8]) {
+    let mut i: usize = 0;
+    while i < file.len() {
+        text(b" ");
+        io::print_hex(STDOUT_FILENO, file[i] as u64, 2);
+        i += 1;
+    }
+}
+
 // The class numbers of so many terms.
 fn class_numbers(arrangement: [u8; 12], terms: usize) {
     let mut i: usize = 0;

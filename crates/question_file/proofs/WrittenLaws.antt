@@ -1,0 +1,93 @@
+-- When the writer writes and when it refuses: it refuses exactly the tables that are not accepted and too short a buffer, and a refusal leaves the buffer as it was.
+use Prim.Native.Nat.{ℕ, _+_, _*_, _≤_, _<_}
+use mathlib.Core.Path.{_≡_, refl, sym, ap, _∙_}
+use mathlib.Core.Bool.{Bool, true, false, cond}
+use mathlib.Core.List.{List, [], _∷_, _++_}
+use mathlib.Core.Logic.{_↔_}
+use native.Mathlib.Omega.{arith}
+use borrow.Author.Tests.{ltb-true, ltb-false, lt-ltb, le-ltb}
+use lib.Dec.{ltb}
+use lib.ListN.{length, length-append}
+use Rattle.question.specs.declared.statements.Statement.{Statement}
+use Rattle.question.specs.declared.questions.Question.{Question}
+use Rattle.question.specs.declared.refusals.Refusal.{Refusal}
+use Rattle.question.specs.declared.checks.TableCheck.{TableCheck}
+use Rattle.question.specs.declared.checks.TableCheck.the-variants.{Accepted, Refused as RefusedTable}
+use Rattle.question.specs.Limits.{maxStatements}
+use Rattle.question.specs.Refusals.{refusal, bufferTooShort}
+use Rattle.question.specs.Questions.{statements}
+use Rattle.question.specs.Checks.{checked}
+use Rattle.outcome.specs.Over.{over}
+use Rattle.question_file.specs.declared.writes.Written.{Written}
+use Rattle.question_file.specs.declared.writes.Written.the-variants.{Bytes, Refused}
+use Rattle.question_file.specs.Bodies.{bodyOf}
+use Rattle.question_file.specs.Bytes.{statementBytes, statementsBytes, questionBytes}
+use Rattle.question_file.specs.Writes.{fitted, fittedOver, checkedThen, checkedOver, written, writtenOver}
+use Rattle.question_file.proofs.BodyLaws.{field}
+use Rattle.question_file.proofs.WriteLaws.{question-length}
+use Rattle.question_file.proofs.AsReadLaws.{checked-sound}
+
+refused-bytes : {A : Type 0} {r : Refusal} {n : ℕ} → Refused r ≡ Bytes n → A
+refused-bytes e = let z : _≡_ {A = ℕ} 0 1 = cc in absurd (omega arith)
+
+bytes-same : {m n : ℕ} → Bytes m ≡ Bytes n → m ≡ n
+bytes-same e = cc
+
+module _ (q : Question) (room : ℕ) where
+  -- may the question be written: its table is accepted, and there is room for its file
+  abbrev pub Writable : Type 0
+  Writable = (checked q ≡ Accepted) × (length (questionBytes q) ≤ room)
+
+  pub writable-written : Writable → written q room ≡ Bytes (length (questionBytes q))
+  unfolding written
+  writable-written w = rw (w .0, le-ltb room (length (questionBytes q)) (w .1))
+
+  pub written-writable : (n : ℕ) → written q room ≡ Bytes n → Writable × (n ≡ length (questionBytes q))
+  unfolding written
+  written-writable n e = go (checked q) (ltb room (length (questionBytes q))) refl refl e
+    where
+      go : (c : TableCheck) (b : Bool) → checked q ≡ c → ltb room (length (questionBytes q)) ≡ b → checkedThen c (cond b (Refused (refusal bufferTooShort 0)) (Bytes (length (questionBytes q)))) ≡ Bytes n → Writable × (n ≡ length (questionBytes q))
+      go (RefusedTable r) b p h e = refused-bytes e
+      go Accepted true p h e = refused-bytes e
+      go Accepted false p h e = ((p, ltb-false room _ h), sym (bytes-same e))
+
+  -- the writer writes exactly where it may
+  pub writes : (written q room ≡ Bytes (length (questionBytes q))) ↔ Writable
+  writes = ((λ e. written-writable (length (questionBytes q)) e .0), writable-written)
+
+  -- and refuses exactly where it may not
+  pub refuses : ((r : Refusal) × (written q room ≡ Refused r)) ↔ (Writable → ⊥)
+  unfolding written
+  refuses = ((λ r w. refused-bytes (sym (r .1) ∙ writable-written w)), λ not. go (checked q) (ltb room (length (questionBytes q))) refl refl not)
+    where
+      go : (c : TableCheck) (b : Bool) → checked q ≡ c → ltb room (length (questionBytes q)) ≡ b → (Writable → ⊥) →
+          (r : Refusal) × (checkedThen c (cond b (Refused (refusal bufferTooShort 0)) (Bytes (length (questionBytes q)))) ≡ Refused r)
+      go (RefusedTable r) b p h not = (r, refl)
+      go Accepted true p h not = (refusal bufferTooShort 0, refl)
+      go Accepted false p h not = absurd (not (p, ltb-false room _ h))
+
+module _ (q : Question) (old : List ℕ) where
+  -- the buffer after a call that writes
+  pub written-over : Writable q (length old) → writtenOver q old ≡ over (questionBytes q) old
+  unfolding writtenOver
+  written-over w = rw (w .0, le-ltb (length old) (length (questionBytes q)) (w .1))
+
+  -- and after one that refuses
+  pub refused-over : (r : Refusal) → written q (length old) ≡ Refused r → writtenOver q old ≡ old
+  unfolding written writtenOver
+  refused-over r e = go (checked q) (ltb (length old) (length (questionBytes q))) e
+    where
+      go : (c : TableCheck) (b : Bool) → checkedThen c (cond b (Refused (refusal bufferTooShort 0)) (Bytes (length (questionBytes q)))) ≡ Refused r → checkedOver c (cond b old (over (questionBytes q) old)) old ≡ old
+      go (RefusedTable r) b e = refl
+      go Accepted true e = refl
+      go Accepted false e = refused-bytes (sym e)
+
+-- a statement's field has six bytes at the most
+statements-short : (ss : List Statement) → length (statementsBytes ss) ≤ 6 * length ss
+unfolding statementsBytes
+statements-short [] = omega arith
+statements-short (s ∷ ss) = omega (arith, statements-short ss, field s .few, length-append (statementBytes s) (statementsBytes ss))
+
+-- the longest file has 392 bytes
+pub longest : (q : Question) → checked q ≡ Accepted → length (questionBytes q) ≤ 392
+longest q e = omega (arith, question-length q, statements-short (statements q), checked-sound q e .few-statements)

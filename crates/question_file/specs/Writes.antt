@@ -1,0 +1,39 @@
+-- The writer of question files: what it answers, and the lent buffer after the call.
+use Prim.Native.Nat.{ℕ}
+use mathlib.Core.Bool.{cond}
+use mathlib.Core.List.{List}
+use lib.Dec.{ltb}
+use lib.ListN.{length}
+use Rattle.question.specs.declared.questions.Question.{Question}
+use Rattle.question.specs.declared.checks.TableCheck.{TableCheck}
+use Rattle.question.specs.declared.checks.TableCheck.the-variants.{Accepted, Refused as RefusedTable}
+use Rattle.question.specs.Refusals.{refusal, bufferTooShort}
+use Rattle.question.specs.Checks.{checked}
+use Rattle.outcome.specs.Over.{over}
+use Rattle.question_file.specs.declared.writes.Written.{Written}
+use Rattle.question_file.specs.declared.writes.Written.the-variants.{Bytes, Refused}
+use Rattle.question_file.specs.Bytes.{questionBytes}
+
+-- some bytes where there is room for so many: 10 if they are more
+abbrev pub fitted : List ℕ → ℕ → Written
+fitted bytes room = cond (ltb room (length bytes)) (Refused (refusal bufferTooShort 0)) (Bytes (length bytes))
+
+abbrev pub fittedOver : List ℕ → List ℕ → List ℕ
+fittedOver bytes old = cond (ltb (length old) (length bytes)) old (over bytes old)
+
+-- first the refusals of the table
+abbrev pub checkedThen : TableCheck → Written → Written
+checkedThen Accepted answer = answer
+checkedThen (RefusedTable r) answer = Refused r
+
+abbrev pub checkedOver : TableCheck → List ℕ → List ℕ → List ℕ
+checkedOver Accepted new old = new
+checkedOver (RefusedTable r) new old = old
+
+-- the answer to a question that is to be written where there is room for so many bytes
+unfoldable pub written : Question → ℕ → Written
+written q room = checkedThen (checked q) (fitted (questionBytes q) room)
+
+-- the buffer after the call: the file over what was there, or what was there
+unfoldable pub writtenOver : Question → List ℕ → List ℕ
+writtenOver q old = checkedOver (checked q) (fittedOver (questionBytes q) old) old
