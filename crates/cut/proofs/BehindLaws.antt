@@ -1,12 +1,10 @@
 -- What is found behind a beginning of an arrangement, as a recursion over the terms still to be placed.
-use Prim.Native.Nat.{ℕ, suc, max}
+use Prim.Native.Nat.{ℕ, suc}
 use mathlib.Core.Path.{_≡_, refl, sym, ap, _∙_, fun-ext}
 use mathlib.Core.List.{List, [], _∷_, _++_, append-nil}
-use mathlib.Core.Option.{Option}
 use Rattle.theory.specs.Arrangements.{classes}
 use Rattle.theory.specs.Searches.{firstFrom, firstPlacing}
 use Rattle.theory.specs.Rules.{Row}
-use Rattle.theory.specs.Solutions.{Solution}
 use Rattle.theory.specs.FirstModels.{modelOf, firstModel}
 use Rattle.theory.specs.Sets.{Test, fits}
 use Rattle.theory.proofs.ArrangementLaws.{classes-append}

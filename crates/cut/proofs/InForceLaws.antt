@@ -1,9 +1,9 @@
 -- Rows in force: a test looks at nothing but the mask and the other term that it names, and more terms placed only put more rows in force.
 use Prim.Native.Nat.{ℕ, _≤_, _<_}
-use mathlib.Core.Path.{_≡_, refl, sym, ap, subst, _∙_, fun-ext}
+use mathlib.Core.Path.{_≡_, refl, ap, subst, fun-ext}
 use mathlib.Core.Bool.{Bool, true, false, not, _&&_, _||_, Bool·beq, cond}
 use mathlib.Core.List.{List, [], _∷_}
-use mathlib.Core.Option.{Option, none, some, Option·some-ne-none}
+use mathlib.Core.Option.{none, some}
 use native.Mathlib.Omega.{arith}
 use lib.Dec.{T, ltb, ltb→lt, lt→ltb}
 use Rattle.question.specs.Masks.{bit}
@@ -13,11 +13,11 @@ use Rattle.theory.specs.Rules.{Row}
 use Rattle.theory.specs.Solutions.{allRows, metBy}
 use Rattle.theory.specs.FirstModels.{serves}
 use Rattle.theory.specs.Sets.{Test, IsSame, IsNotSame, IsIn, IsNotIn, ExactlyIfIn, ExactlyIfNotIn, ExactlyIfSame, ExactlyIfOr, ExactlyIfAnd, ExactlyIfAndNot, fits, placesOf, placesDeclared, rowDeclared}
-use Rattle.question.proofs.TestLaws.{true-T, T-true, and-left, and-right}
-use Rattle.theory.proofs.SearchLaws.{FirstNumberIs, firstFrom-is}
+use Rattle.question.proofs.TestLaws.{true-T, and-left, and-right}
 use Rattle.theory.proofs.RuleLaws.{all-map}
 use Rattle.mask.specs.InForce.{otherPlaced, meetsInForce, leastMask}
-use Rattle.cut.specs.Members.{othersPlaced}
+use Rattle.mask.proofs.LeastLaws.{LeastIs, leastMask-is}
+use Rattle.cut.specs.Others.{othersPlaced}
 
 -- a test whose other term is among the first n asks only of those which are the same
 pub same-among : (n m : ℕ) (same other : ℕ → Bool) → ((d : ℕ) → d < n → same d ≡ other d) → (t : Test) → T (otherPlaced n t) → fits m same t ≡ fits m other t
@@ -82,12 +82,7 @@ module _ (class n : ℕ) (l : List ℕ) (k : ℕ) (inside : (c : ℕ) → T (bit
 module _ (bound : ℕ) (rows : List (Row Test)) where
   -- where a class has no smallest mask, no mask below the bound meets all rows in force
   pub no-mask : (class n : ℕ) → leastMask bound rows class n ≡ none → (m : ℕ) → m < bound → T (allRows (meetsInForce class n m) rows) → ⊥
-  unfolding leastMask
-  no-mask class n e m lt h = Option·some-ne-none m (subst (λ b. cond b (some m) none ≡ none) (true-T (allRows (meetsInForce class n m) rows) h)
-      (subst (FirstNumberIs bound 0 try) e (firstFrom-is bound 0 try) m (omega arith) (omega arith)))
-    where
-      try : ℕ → Option ℕ
-      try i = cond (allRows (meetsInForce class n i) rows) (some i) none
+  no-mask class n e m lt h = subst T (subst (LeastIs bound rows class n) e (leastMask-is bound rows class n) m lt) h
 
   -- once each row's other term is placed, more terms placed alter nothing
   pub least-settled : (class n more : ℕ) → T (othersPlaced n rows) → T (othersPlaced more rows) → leastMask bound rows class n ≡ leastMask bound rows class more

@@ -1,7 +1,7 @@
 -- Where all terms are placed, all rows are in force: the smallest mask of a class is that of its set of terms.
 use Prim.Native.Nat.{ℕ, _<_}
 use mathlib.Core.Path.{_≡_, refl, sym, ap, _∙_, fun-ext}
-use mathlib.Core.Bool.{true, not, _||_, cond}
+use mathlib.Core.Bool.{not, _||_, cond}
 use mathlib.Core.List.{List, [], _∷_}
 use mathlib.Core.Option.{none, some}
 use lib.Dec.{T}
@@ -16,7 +16,8 @@ use Rattle.theory.specs.Sets.{Test, fits}
 use Rattle.question.proofs.TestLaws.{true-T, and-left, and-right}
 use Rattle.theory.proofs.RuleLaws.{TermsBelow}
 use Rattle.mask.specs.InForce.{otherPlaced, meetsInForce, leastMask}
-use Rattle.cut.specs.Members.{members, othersPlaced}
+use Rattle.cut.specs.Members.{members}
+use Rattle.cut.specs.Others.{othersPlaced}
 use Rattle.cut.proofs.MembersLaws.{bit-members}
 use Rattle.cut.proofs.InForceLaws.{same-among}
 

@@ -1,3 +1,4 @@
 -- What the laws speak of.
 pub mod Members
+pub mod Others
 pub mod Behind

@@ -11,19 +11,20 @@ use lib.Seq.{ext-getD, getD-take, length-take-le, getD-set-same, getD-set-other}
 use Rattle.question.specs.Limits.{maxTerms}
 use Rattle.theory.specs.Arrangements.{classes}
 use Rattle.theory.specs.Searches.{eachFrom}
-use Rattle.theory.specs.Solutions.{Solution, withMasks, allRows}
+use Rattle.theory.specs.Solutions.{withMasks, allRows}
 use Rattle.theory.specs.FirstModels.{smallestMask, modelOf}
 use Rattle.theory.specs.Sets.{fits, rowDeclared}
 use Rattle.theory.proofs.SearchLaws.{EachIs, eachFrom-is}
 use Rattle.theory.proofs.RowListLaws.{declared-below}
 use Rattle.theory.proofs.RuleLaws.{TermsBelow}
 use Rattle.row.specs.Rows.{rowOf}
-use Rattle.cut.specs.Members.{members, othersPlaced}
+use Rattle.cut.specs.Members.{members}
+use Rattle.cut.specs.Others.{othersPlaced}
 use Rattle.cut.proofs.InForceLaws.{declared-others}
 use Rattle.cut.proofs.WholeLaws.{mask-whole}
 use Rattle.search.specs.declared.answers.Verdict.the-variants.{Possible, Impossible}
 use Rattle.search.specs.declared.answers.SearchAnswer.{SearchAnswer}
-use Rattle.search.specs.Answers.{withoutModel, answerOf, padded}
+use Rattle.search.specs.Answers.{withoutModel, answerOf}
 use Rattle.search.specs.Placings.{Placing}
 use Rattle.search.specs.Memos.{maskOfClass}
 use Rattle.search.proofs.PlacingLaws.{RestZero, rest-padded, placed-length, placing-padded}

@@ -4,6 +4,8 @@ pub mod MemoLaws
 pub mod SmallestLaws
 pub mod StepLaws
 pub mod LeafLaws
-pub mod HopelessLaws
+pub mod LastClassLaws
+pub mod SettledLaws
 pub mod OtherLaws
+pub mod SearchedLaws
 pub mod OneResultLaws

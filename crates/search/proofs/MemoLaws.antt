@@ -1,7 +1,7 @@
 -- The memo: it starts with nothing noted, what is read in it is right, and one note more leaves it right.
 use Prim.Native.Nat.{ℕ, suc, _+_, _^_, _≤_, _<_}
-use mathlib.Core.Path.{_≡_, refl, sym, ap, subst, _∙_}
-use mathlib.Core.Bool.{Bool, true, false}
+use mathlib.Core.Path.{_≡_, refl, ap, subst, _∙_}
+use mathlib.Core.Bool.{false}
 use mathlib.Core.List.{List}
 use mathlib.Core.Logic.{_≢_, inl, inr}
 use mathlib.Core.Option.{Option, none, some}
@@ -9,11 +9,15 @@ use native.Mathlib.Omega.{arith}
 use native.Mathlib.Decide.{decLt, ℕ-discrete}
 use native.Mathlib.Nat.{pow-suc}
 use lib.Dec.{eqb}
-use lib.ListN.{length, getD, set, replicate, length-set, length-replicate, getD-replicate, List·getD-eq-default}
+use lib.ListN.{length, getD, take, set, replicate, length-set, length-replicate, getD-replicate, List·getD-eq-default}
 use lib.Pow.{pow-mono}
 use lib.Seq.{getD-set-other, getD-set-same}
 use Rattle.question.specs.Limits.{maxTerms}
-use Rattle.search.specs.Memos.{maskOfClass, isThere, noted, classCount, Noting, Memo}
+use Rattle.cut.specs.Members.{members}
+use Rattle.cut.proofs.MembersLaws.{members-below}
+use Rattle.search.specs.Placings.{Placing}
+use Rattle.search.specs.Memos.{maskOfClass, isThere, noted, classCount, NotedAt, Memo}
+use Rattle.search.proofs.PlacingLaws.{placed-length}
 
 -- a note says whether there is a mask
 noted-there : (o : Option ℕ) → eqb (noted o) 2 ≡ isThere o
@@ -34,19 +38,24 @@ one-highest class n m p q r s = go (decLt n m) (decLt m n)
     go (no g) (no h) = omega arith
 
 -- a place is that of one question
-one-question : (at class n other m : ℕ) → Noting at class n → Noting at other m → (class ≡ other) × (n ≡ m)
+one-question : (at class n other m : ℕ) → NotedAt at class n → NotedAt at other m → (class ≡ other) × (n ≡ m)
 one-question at class n other m (inl p) (inl q) = (omega arith, one-highest class n m (p .2) (p .3) (omega arith) (omega arith))
 one-question at class n other m (inl p) (inr q) = absurd (omega arith)
 one-question at class n other m (inr p) (inl q) = absurd (omega arith)
 one-question at class n other m (inr p) (inr q) = (omega arith, omega arith)
 
-pub noting-below : (at class n : ℕ) → Noting at class n → at < classCount + classCount
-noting-below at class n (inl p) = omega arith
-noting-below at class n (inr p) = omega arith
+pub place-below : (at class n : ℕ) → NotedAt at class n → at < classCount + classCount
+place-below at class n (inl p) = omega arith
+place-below at class n (inr p) = omega arith
+
+-- there is a place for each class of the terms placed
+pub members-few : {arrangement : List ℕ} {placed used : ℕ} → Placing arrangement placed used → (k class : ℕ) → class ≡ members (take placed arrangement) k → class < classCount
+members-few {arrangement} {placed} {used} here k class is =
+    omega (arith, is, members-below k (take placed arrangement), ap (λ n. 2 ^ n) (placed-length here), pow-mono {i = placed} {j = maxTerms} (here .few-terms))
 
 -- the place of a class under all rows
-pub noting-all : (class : ℕ) → class < classCount → Noting (class + classCount) class maxTerms
-noting-all class h = inr (refl, h, refl)
+pub place-of-all : (class : ℕ) → class < classCount → NotedAt (class + classCount) class maxTerms
+place-of-all class h = inr (refl, h, refl)
 
 module _ (rows : List ℕ) (sets : ℕ) where
   -- nothing noted
@@ -63,7 +72,7 @@ module _ (rows : List ℕ) (sets : ℕ) where
       zero-at at (yes h) = getD-replicate (classCount + classCount) at 0 0 h
       zero-at at (no h) = List·getD-eq-default blank 0 {n = at} (omega (arith, blank-long))
 
-  module _ (memo : List ℕ) (at class n : ℕ) (good : Memo rows sets memo) (place : Noting at class n) where
+  module _ (memo : List ℕ) (at class n : ℕ) (good : Memo rows sets memo) (place : NotedAt at class n) where
     pub memo-read : getD memo at 0 ≢ 0 → eqb (getD memo at 0) 2 ≡ isThere (maskOfClass rows sets class n)
     memo-read z = ap (λ v. eqb v 2) (good .right at class n place z) ∙ noted-there (maskOfClass rows sets class n)
 
@@ -73,8 +82,8 @@ module _ (rows : List ℕ) (sets : ℕ) where
         new : List ℕ
         new = set memo at v
 
-        go : (i other m : ℕ) → Noting i other m → getD new i 0 ≢ 0 → Dec (i ≡ at) → getD new i 0 ≡ noted (maskOfClass rows sets other m)
+        go : (i other m : ℕ) → NotedAt i other m → getD new i 0 ≢ 0 → Dec (i ≡ at) → getD new i 0 ≡ noted (maskOfClass rows sets other m)
         go i other m q z (yes here) =
-            let same = one-question at class n other m place (subst (λ j. Noting j other m) here q) in
-            ap (λ j. getD new j 0) here ∙ getD-set-same memo at v 0 (omega (arith, good .long, noting-below at class n place)) ∙ e ∙ cc
+            let same = one-question at class n other m place (subst (λ j. NotedAt j other m) here q) in
+            ap (λ j. getD new j 0) here ∙ getD-set-same memo at v 0 (omega (arith, good .long, place-below at class n place)) ∙ e ∙ cc
         go i other m q z (no there) = let kept = getD-set-other memo at i v 0 there in kept ∙ good .right i other m q (λ w. z (kept ∙ w))

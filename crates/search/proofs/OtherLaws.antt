@@ -1,6 +1,5 @@
 -- A walk over the rows that keeps a number of terms among which the other terms of all rows passed are.
 use Prim.Native.Nat.{ℕ, _+_, _≤_, _<_}
-use mathlib.Core.Path.{_≡_, ap, subst}
 use mathlib.Core.List.{List, map}
 use native.Mathlib.Omega.{arith}
 use native.Mathlib.Numerals.{add-one}
@@ -10,7 +9,7 @@ use lib.Seq.{drop-cons}
 use Rattle.question.proofs.TestLaws.{and-both}
 use Rattle.row.specs.Rows.{rowOf}
 use Rattle.mask.specs.InForce.{otherPlaced}
-use Rattle.cut.specs.Members.{othersPlaced}
+use Rattle.cut.specs.Others.{othersPlaced}
 use Rattle.cut.proofs.InForceLaws.{placed-more}
 
 module _ (rows : List ℕ) where

@@ -1,13 +1,12 @@
 -- One call of the recursion: how it ends, how its loop over the class numbers goes, and what each call inside it is about.
-use Prim.Native.Nat.{ℕ, suc, _+_, _-_, _^_, _≤_, _<_, max}
-use mathlib.Core.Path.{_≡_, refl, sym, ap, subst, _∙_}
-use mathlib.Core.Bool.{true, false, true≢false, false≢true}
+use Prim.Native.Nat.{ℕ, suc, _+_, _-_, _^_, _≤_, _<_}
+use mathlib.Core.Path.{_≡_, refl, sym, ap, _∙_}
+use mathlib.Core.Bool.{Bool, true, false, true≢false, false≢true}
 use mathlib.Core.List.{List, [], _∷_, _++_, map}
 use mathlib.Core.Option.{Option, none, some}
 use native.Mathlib.Omega.{arith}
 use lib.ListN.{take, set}
 use Rattle.question.specs.Limits.{maxTerms}
-use Rattle.theory.specs.Arrangements.{classes}
 use Rattle.theory.specs.Searches.{firstFrom}
 use Rattle.theory.specs.Solutions.{Solution}
 use Rattle.theory.specs.FirstModels.{modelOf}
@@ -18,7 +17,8 @@ use Rattle.cut.specs.Behind.{foundBehind}
 use Rattle.cut.proofs.BehindLaws.{behind-all, behind-step}
 use Rattle.search.specs.declared.answers.Verdict.the-variants.{Impossible}
 use Rattle.search.specs.declared.answers.SearchAnswer.{SearchAnswer}
-use Rattle.search.specs.Answers.{isPossible, withoutModel, answerOf}
+use Rattle.search.specs.Verdicts.{isPossible}
+use Rattle.search.specs.Answers.{withoutModel, answerOf}
 use Rattle.search.specs.Placings.{Placing, found}
 use Rattle.search.proofs.PlacingLaws.{next-taken}
 
@@ -39,11 +39,6 @@ module _ (placed left : ℕ) (not-all : left ≡ 0 → ⊥) where
 pub none-left : (placed left : ℕ) → left ≡ 0 → placed + left ≡ placed
 none-left placed left e = omega arith
 
--- what an answer says of what was found
-pub answer-none : {r : SearchAnswer} {o : Option Solution} → r ≡ withoutModel Impossible → o ≡ none → r ≡ answerOf o
-unfolding answerOf
-answer-none e n = e ∙ ap answerOf (sym n)
-
 module _ (rows : List ℕ) (sets : ℕ) (arrangement : List ℕ) (placed left used : ℕ) where
   -- what is found with the next term in the class c
   abbrev pub foundIn : ℕ → Option Solution
@@ -53,9 +48,14 @@ module _ (rows : List ℕ) (sets : ℕ) (arrangement : List ℕ) (placed left us
   abbrev pub Before : ℕ → Type 0
   Before c = FromHere (suc used) foundIn (found rows sets arrangement placed left) c
 
-  -- no term is left
-  pub all-placed : left ≡ 0 → found rows sets arrangement placed left ≡ modelOf fits (2 ^ sets) (map rowOf rows) (take placed arrangement)
-  all-placed e = ap (found rows sets arrangement placed) e ∙ behind-all (2 ^ sets) (map rowOf rows) (take placed arrangement)
+  -- nothing is found
+  pub answer-none : (r : SearchAnswer) → r ≡ withoutModel Impossible → found rows sets arrangement placed left ≡ none → r ≡ answerOf (found rows sets arrangement placed left)
+  unfolding answerOf
+  answer-none r is e = is ∙ ap answerOf (sym e)
+
+  -- no term is left: the model of the arrangement
+  pub answer-whole : (r : SearchAnswer) → left ≡ 0 → r ≡ answerOf (modelOf fits (2 ^ sets) (map rowOf rows) (take placed arrangement)) → r ≡ answerOf (found rows sets arrangement placed left)
+  answer-whole r e is = is ∙ ap answerOf (sym (ap (found rows sets arrangement placed) e ∙ behind-all (2 ^ sets) (map rowOf rows) (take placed arrangement)))
 
   module _ (here : Placing arrangement placed used) where
     pub before-first : 0 < left → Before 0
@@ -64,27 +64,28 @@ module _ (rows : List ℕ) (sets : ℕ) (arrangement : List ℕ) (placed left us
         ∙ behind-step (2 ^ sets) (map rowOf rows) (take placed arrangement) (left - 1) ∙ ap (λ u. firstFrom (suc u) 0 foundIn) (sym (here .counted)))
 
     -- the call with the next term in the class c is about that
-    pub found-next : (c : ℕ) → placed < maxTerms → found rows sets (set arrangement placed c) (placed + 1) (left - 1) ≡ foundIn c
-    found-next c room = ap (λ p. foundBehind (2 ^ sets) (map rowOf rows) p (left - 1)) (next-taken here c room)
+    pub answer-next : (c : ℕ) (r : SearchAnswer) → placed < maxTerms → r ≡ answerOf (found rows sets (set arrangement placed c) (placed + 1) (left - 1)) → r ≡ answerOf (foundIn c)
+    answer-next c r room is = is ∙ ap (λ p. answerOf (foundBehind (2 ^ sets) (map rowOf rows) p (left - 1))) (next-taken here c room)
 
-  module _ (c : ℕ) (r : SearchAnswer) (allowed : c ≤ used) (is : r ≡ answerOf (foundIn c)) (before : Before c) where
+  module _ (c : ℕ) (r : SearchAnswer) (allowed : c ≤ used) (is : r ≡ answerOf (foundIn c)) (before : Before c) (possible : Bool) (told : possible ≡ isPossible (r .verdict)) where
     -- it found a model
-    pub class-hit : isPossible (r .verdict) ≡ true → r ≡ answerOf (found rows sets arrangement placed left)
+    pub class-hit : possible ≡ true → r ≡ answerOf (found rows sets arrangement placed left)
     unfolding answerOf
     class-hit v = go (foundIn c) refl
       where
         go : (o : Option Solution) → foundIn c ≡ o → r ≡ answerOf (found rows sets arrangement placed left)
-        go none e = absurd (true≢false (sym v ∙ ap (λ (a : SearchAnswer). isPossible (a .verdict)) (is ∙ ap answerOf e)))
+        go none e = absurd (true≢false (sym v ∙ told ∙ ap (λ (a : SearchAnswer). isPossible (a .verdict)) (is ∙ ap answerOf e)))
         go (some sol) e = is ∙ ap answerOf (e ∙ sym (loop-hit (suc used) foundIn (found rows sets arrangement placed left) c sol (omega arith) e before))
 
     -- it found none
-    pub class-miss : isPossible (r .verdict) ≡ false → Before (c + 1)
+    pub class-miss : possible ≡ false → Before (c + 1)
     unfolding answerOf
     class-miss v = go (foundIn c) refl
       where
         go : (o : Option Solution) → foundIn c ≡ o → Before (c + 1)
         go none e = loop-miss (suc used) foundIn (found rows sets arrangement placed left) c (omega arith) e before
-        go (some sol) e = absurd (false≢true (sym v ∙ ap (λ (a : SearchAnswer). isPossible (a .verdict)) (is ∙ ap answerOf e)))
+        go (some sol) e = absurd (false≢true (sym v ∙ told ∙ ap (λ (a : SearchAnswer). isPossible (a .verdict)) (is ∙ ap answerOf e)))
 
+  -- every class was tried
   pub class-end : (c : ℕ) → used < c → Before c → found rows sets arrangement placed left ≡ none
   class-end c past = loop-end (suc used) foundIn (found rows sets arrangement placed left) c past

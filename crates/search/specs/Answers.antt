@@ -1,6 +1,5 @@
 -- What the search answers to rows that are handed in.
 use Prim.Native.Nat.{ℕ, _-_, _^_}
-use mathlib.Core.Bool.{Bool, true, false}
 use mathlib.Core.List.{List, [], _++_, map}
 use mathlib.Core.Option.{Option, none, some}
 use lib.ListN.{length, replicate}
@@ -16,12 +15,6 @@ use Rattle.row.specs.Checks.{rowsChecked}
 use Rattle.search.specs.declared.answers.Verdict.{Verdict}
 use Rattle.search.specs.declared.answers.Verdict.the-variants.{Possible, Impossible, Refused}
 use Rattle.search.specs.declared.answers.SearchAnswer.{SearchAnswer}
-
--- does the verdict come with a model
-abbrev pub isPossible : Verdict → Bool
-isPossible Possible = true
-isPossible Impossible = false
-isPossible (Refused r) = false
 
 -- twelve entries: those of l, then 0
 abbrev pub padded : List ℕ → List ℕ

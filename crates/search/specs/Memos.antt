@@ -29,10 +29,10 @@ abbrev pub classCount : ℕ
 classCount = 2 ^ maxTerms
 
 -- the place of a question: where n - 1 is the highest term of the class, the class itself; where n is 12, so that all rows are in force, as far again
-abbrev pub Noting : ℕ → ℕ → ℕ → Type 0
-Noting at class n = ((at ≡ class) × (class < classCount) × (2 ^ n ≤ class + class) × (class < 2 ^ n)) ⊎ ((at ≡ class + classCount) × (class < classCount) × (n ≡ maxTerms))
+abbrev pub NotedAt : ℕ → ℕ → ℕ → Type 0
+NotedAt at class n = ((at ≡ class) × (class < classCount) × (2 ^ n ≤ class + class) × (class < 2 ^ n)) ⊎ ((at ≡ class + classCount) × (class < classCount) × (n ≡ maxTerms))
 
 -- what is noted is right
 pub record Memo (rows : List ℕ) (sets : ℕ) (memo : List ℕ) : Type 0 where
   pub long : length memo ≡ classCount + classCount
-  pub right : (at class n : ℕ) → Noting at class n → getD memo at 0 ≢ 0 → getD memo at 0 ≡ noted (maskOfClass rows sets class n)
+  pub right : (at class n : ℕ) → NotedAt at class n → getD memo at 0 ≢ 0 → getD memo at 0 ≡ noted (maskOfClass rows sets class n)

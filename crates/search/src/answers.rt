@@ -1,7 +1,8 @@
 // What the search answers: the verdict, and beside it the first model.
 use question::Refusal;
 ghost use mathlib.Core.Path.{_≡_};
-ghost use Rattle.search.specs.Answers.{isPossible, withoutModel};
+ghost use Rattle.search.specs.Verdicts.{isPossible};
+ghost use Rattle.search.specs.Answers.{withoutModel};
 
 pub enum Verdict {
     Possible,

@@ -8,11 +8,12 @@ ghost use mathlib.Core.List.{map};
 ghost use mathlib.Core.Option.{none};
 ghost use Prim.Native.Nat.{ℕ, _+_, _^_, _≤_, _<_};
 ghost use lib.Dec.{T};
-ghost use Rattle.question.specs.Limits.{maxSets, maxTerms};
+ghost use Rattle.question.specs.Limits.{maxTerms};
 ghost use Rattle.row.specs.Rows.{rowOf};
-ghost use Rattle.cut.specs.Members.{othersPlaced};
-ghost use Rattle.search.specs.Placings.{Placing, found};
+ghost use Rattle.cut.specs.Others.{othersPlaced};
+ghost use Rattle.search.specs.Placings.{found};
 ghost use Rattle.search.specs.Memos.{Memo};
+ghost use Rattle.search.specs.Steps.{Standing};
 
 // The class of the last term placed has no mask under the rows in force.
 fn last_class_fails(
@@ -23,9 +24,7 @@ fn last_class_fails(
     used: u8,
     sets: u8,
 ) -> bool
-    requires { ⌜ sets ≤ maxSets ⌝ }
-    requires { ⌜ Memo (now rows) sets (now memo) ⌝ }
-    requires { ⌜ Placing arrangement placed used ⌝ }
+    requires { ⌜ Standing (now rows) sets (now memo) arrangement placed used ⌝ }
     requires { ⌜ 0 < placed ⌝ }
     ensures { λ r. ⌜ (r ≡ true → (left : ℕ) → found (now (rows .entry)) sets arrangement placed left ≡ none) ⌝ }
     ensures { λ r. ⌜ Memo (now (rows .entry)) sets (now (memo .exit)) ⌝ }
@@ -43,9 +42,7 @@ fn some_class_fails(
     used: u8,
     sets: u8,
 ) -> bool
-    requires { ⌜ sets ≤ maxSets ⌝ }
-    requires { ⌜ Memo (now rows) sets (now memo) ⌝ }
-    requires { ⌜ Placing arrangement placed used ⌝ }
+    requires { ⌜ Standing (now rows) sets (now memo) arrangement placed used ⌝ }
     requires { ⌜ T (othersPlaced placed (map rowOf (now rows))) ⌝ }
     ensures { λ r. ⌜ (r ≡ true → (left : ℕ) → found (now (rows .entry)) sets arrangement placed left ≡ none) ⌝ }
     ensures { λ r. ⌜ Memo (now (rows .entry)) sets (now (memo .exit)) ⌝ }
@@ -79,9 +76,7 @@ fn term_fits_nowhere(
     term: usize,
     sets: u8,
 ) -> bool
-    requires { ⌜ sets ≤ maxSets ⌝ }
-    requires { ⌜ Memo (now rows) sets (now memo) ⌝ }
-    requires { ⌜ Placing arrangement placed used ⌝ }
+    requires { ⌜ Standing (now rows) sets (now memo) arrangement placed used ⌝ }
     requires { ⌜ T (othersPlaced placed (map rowOf (now rows))) ⌝ }
     requires { ⌜ (placed ≤ term) × (term < maxTerms) ⌝ }
     ensures { λ r. ⌜ (r ≡ true → (left : ℕ) → term < placed + left → found (now (rows .entry)) sets arrangement placed left ≡ none) ⌝ }
@@ -109,9 +104,7 @@ fn some_term_fits_nowhere(
     used: u8,
     sets: u8,
 ) -> bool
-    requires { ⌜ sets ≤ maxSets ⌝ }
-    requires { ⌜ Memo (now rows) sets (now memo) ⌝ }
-    requires { ⌜ Placing arrangement placed used ⌝ }
+    requires { ⌜ Standing (now rows) sets (now memo) arrangement placed used ⌝ }
     requires { ⌜ T (othersPlaced placed (map rowOf (now rows))) ⌝ }
     requires { ⌜ placed + left ≤ maxTerms ⌝ }
     ensures { λ r. ⌜ (r ≡ true → found (now (rows .entry)) sets arrangement placed left ≡ none) ⌝ }
@@ -138,9 +131,7 @@ pub(crate) fn hopeless(
     others: usize,
     sets: u8,
 ) -> bool
-    requires { ⌜ sets ≤ maxSets ⌝ }
-    requires { ⌜ Memo (now rows) sets (now memo) ⌝ }
-    requires { ⌜ Placing arrangement placed used ⌝ }
+    requires { ⌜ Standing (now rows) sets (now memo) arrangement placed used ⌝ }
     requires { ⌜ T (othersPlaced others (map rowOf (now rows))) ⌝ }
     requires { ⌜ placed + left ≤ maxTerms ⌝ }
     ensures { λ r. ⌜ (r ≡ true → found (now (rows .entry)) sets arrangement placed left ≡ none) ⌝ }

@@ -2,9 +2,12 @@
 use mask::Smallest;
 use mask::smallest_mask;
 ghost use mathlib.Core.Path.{_≡_};
-ghost use Prim.Native.Nat.{_^_, _≤_, _<_, _+_};
+ghost use Prim.Native.Nat.{_≤_, _<_, _+_};
 ghost use Rattle.question.specs.Limits.{maxSets, maxTerms};
-ghost use Rattle.search.specs.Memos.{maskOfClass, isThere, classCount, Noting, Memo};
+ghost use Rattle.search.specs.Memos.{maskOfClass, isThere, classCount, NotedAt, Memo};
+
+// How many sets of terms there are. The memo has two bytes for each.
+const CLASS_COUNT: usize = 4096;
 
 // The memo's byte at `at` is about this class, a set of terms, under the rows whose other term is among the first `placed`.
 pub(crate) fn has_mask(
@@ -17,7 +20,7 @@ pub(crate) fn has_mask(
 ) -> bool
     requires { ⌜ sets ≤ maxSets ⌝ }
     requires { ⌜ Memo (now rows) sets (now memo) ⌝ }
-    requires { ⌜ Noting at class placed ⌝ }
+    requires { ⌜ NotedAt at class placed ⌝ }
     ensures { λ r. ⌜ r ≡ isThere (maskOfClass (now (rows .entry)) sets class placed) ⌝ }
     ensures { λ r. ⌜ Memo (now (rows .entry)) sets (now (memo .exit)) ⌝ }
 {
@@ -37,7 +40,7 @@ pub(crate) fn has_mask(
     }
 }
 
-// The same under all rows.
+// The same under all rows: as with twelve terms placed.
 pub(crate) fn has_mask_at_all(rows: &[u32], memo: &mut [u8], class: u32, sets: u8) -> bool
     requires { ⌜ sets ≤ maxSets ⌝ }
     requires { ⌜ Memo (now rows) sets (now memo) ⌝ }
@@ -45,5 +48,5 @@ pub(crate) fn has_mask_at_all(rows: &[u32], memo: &mut [u8], class: u32, sets: u
     ensures { λ r. ⌜ r ≡ isThere (maskOfClass (now (rows .entry)) sets class maxTerms) ⌝ }
     ensures { λ r. ⌜ Memo (now (rows .entry)) sets (now (memo .exit)) ⌝ }
 {
-    has_mask(rows, memo, class as usize + 4096, class, 12, sets)
+    has_mask(rows, memo, class as usize + CLASS_COUNT, class, 12, sets)
 }

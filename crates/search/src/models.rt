@@ -18,6 +18,7 @@ ghost use Rattle.row.specs.Rows.{rowOf};
 ghost use Rattle.search.specs.Answers.{answerOf};
 ghost use Rattle.search.specs.Placings.{Placing};
 
+// The arrangement with those masks, or impossible where a class has none.
 pub(crate) fn model(
     rows: &[u32],
     arrangement: [u8; 12],

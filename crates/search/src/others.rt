@@ -4,9 +4,9 @@ ghost use mathlib.Core.List.{map};
 ghost use lib.Dec.{T};
 ghost use Rattle.row.specs.Rows.{rowOf};
 ghost use Rattle.mask.specs.InForce.{otherPlaced};
-ghost use Rattle.cut.specs.Members.{othersPlaced};
+ghost use Rattle.cut.specs.Others.{othersPlaced};
 
-// So many of the first terms that the other term of the row, if it names one, is among them.
+// So many of the first terms that the other term of the row, if it names one, is among them. A kind above 9 is read as kind 0.
 fn other_within(row: u32) -> usize
     ensures { λ r. ⌜ T (otherPlaced r (rowOf row .test)) ⌝ }
 {

@@ -9,14 +9,15 @@ ghost use mathlib.Core.Path.{_≡_};
 ghost use mathlib.Core.List.{map};
 ghost use Prim.Native.Nat.{_+_, _≤_, max};
 ghost use lib.Dec.{T};
-ghost use Rattle.question.specs.Limits.{maxSets, maxTerms};
+ghost use Rattle.question.specs.Limits.{maxTerms};
 ghost use Rattle.theory.specs.Solutions.{allRows};
 ghost use Rattle.theory.specs.Sets.{rowDeclared};
 ghost use Rattle.row.specs.Rows.{rowOf};
-ghost use Rattle.cut.specs.Members.{othersPlaced};
+ghost use Rattle.cut.specs.Others.{othersPlaced};
 ghost use Rattle.search.specs.Answers.{answerOf};
-ghost use Rattle.search.specs.Placings.{Placing, found};
+ghost use Rattle.search.specs.Placings.{found};
 ghost use Rattle.search.specs.Memos.{Memo};
+ghost use Rattle.search.specs.Steps.{Standing};
 
 // How many classes stand after a term of class c, where `used` stood before.
 fn classes_with(used: u8, c: u8) -> u8
@@ -37,12 +38,10 @@ pub(crate) fn place(
     others: usize,
     sets: u8,
 ) -> SearchAnswer
-    requires { ⌜ sets ≤ maxSets ⌝ }
+    requires { ⌜ Standing (now rows) sets (now memo) arrangement placed used ⌝ }
+    requires { ⌜ placed + left ≤ maxTerms ⌝ }
     requires { ⌜ T (allRows (rowDeclared (placed + left) sets) (map rowOf (now rows))) ⌝ }
     requires { ⌜ T (othersPlaced others (map rowOf (now rows))) ⌝ }
-    requires { ⌜ Memo (now rows) sets (now memo) ⌝ }
-    requires { ⌜ Placing arrangement placed used ⌝ }
-    requires { ⌜ placed + left ≤ maxTerms ⌝ }
     ensures { λ r. ⌜ r ≡ answerOf (found (now (rows .entry)) sets arrangement placed left) ⌝ }
     ensures { λ r. ⌜ Memo (now (rows .entry)) sets (now (memo .exit)) ⌝ }
 {

@@ -16,7 +16,7 @@ ghost use Rattle.row.specs.Rows.{rowOf};
 ghost use Rattle.row.specs.Checks.{rowsChecked};
 ghost use Rattle.search.specs.Answers.{answerOf, searched};
 
-// Accepted rows.
+// Rows that the check accepts: at first no term is placed, and the memo says nothing.
 fn search_accepted(rows: &[u32], terms: usize, sets: u8) -> SearchAnswer
     requires { ⌜ rowsChecked terms sets (now rows) ≡ Accepted ⌝ }
     ensures { λ r. ⌜ r ≡ answerOf (firstModel fits terms (2 ^ sets) (map rowOf (now (rows .entry)))) ⌝ }

@@ -5,23 +5,23 @@ use native.Mathlib.Omega.{arith}
 use borrow.Author.Needs.{needs}
 use lib.Dec.{T}
 use Rattle.row.specs.Rows.{rowOf}
-use Rattle.cut.specs.Members.{othersPlaced}
+use Rattle.cut.specs.Others.{othersPlaced}
 use Rattle.cut.proofs.InForceLaws.{others-more}
 use Rattle.search.proofs.cuts.hopeless.Statement.{statement}
 use Rattle.search.proofs.cuts.hopeless.Tie as tie
 
 -- all other terms are placed
 settled : (c : tie.After-some-class-fails-arg) → let a = c .before .before .before .before .args in T (othersPlaced (a .placed) (map rowOf (a .rows .now)))
-settled c = let s = c .before .before .before .before in others-more (s .args .others) (s .args .placed) (c .before .if1 .left) (map rowOf (s .args .rows .now)) (s .pre .1 .1 .1 .0)
+settled c = let s = c .before .before .before .before in others-more (s .args .others) (s .args .placed) (c .before .if1 .left) (map rowOf (s .args .rows .now)) (s .pre .1 .0)
 
 last-class-fails-requires : tie.Need-last-class-fails-requires
-last-class-fails-requires c κs = let s = c .before .before .before .before .before in (s .pre .0, (s .pre .1 .0, (s .pre .1 .1 .0, omega arith)))
+last-class-fails-requires c κs = let s = c .before .before .before .before .before in (s .pre .0, omega arith)
 
 returns-2 : tie.Need-returns-2
 returns-2 c = let told = c .before .before .last-class-fails .ensures in ((λ e. told .0 e (c .before .before .before .before .before .before .before .before .args .left)), told .1)
 
 some-class-fails-requires : tie.Need-some-class-fails-requires
-some-class-fails-requires c κs = let s = c .before .before .before .before in (s .pre .0, (s .pre .1 .0, (s .pre .1 .1 .0, settled c)))
+some-class-fails-requires c κs = let s = c .before .before .before .before in (s .pre .0, settled c)
 
 returns-3 : tie.Need-returns-3
 returns-3 c = let told = c .before .before .before .some-class-fails .ensures in ((λ e. told .0 (c .if3 .taken) (c .before .before .before .before .before .before .before .before .args .left)), told .1)
@@ -30,13 +30,13 @@ some-term-fits-nowhere-requires : tie.Need-some-term-fits-nowhere-requires
 some-term-fits-nowhere-requires c κs =
     let asked = c .before .before .before .before in
     let s = asked .before .before .before .before .before in
-    (s .pre .0, (asked .some-class-fails .ensures .1, (s .pre .1 .1 .0, (settled (asked .before), s .pre .1 .1 .1 .1))))
+    (record { few-sets = s .pre .0 .few-sets; remembered = asked .some-class-fails .ensures .1; placing = s .pre .0 .placing }, (settled (asked .before), s .pre .1 .1))
 
 pub hopeless-spec : {M : Type 1} → statement M
 hopeless-spec =
     tie.close
     (tie.spec
-    (λ c. ((λ e. absurd (false≢true e)), c .before .before .before .before .pre .1 .0))
+    (λ c. ((λ e. absurd (false≢true e)), c .before .before .before .before .pre .0 .remembered))
     last-class-fails-requires
     (λ c. search needs)
     returns-2

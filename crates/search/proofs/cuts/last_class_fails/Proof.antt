@@ -1,22 +1,20 @@
 -- `last_class_fails` asks whether the class of the last term has a mask: if not, no class that grows from it has one.
-use mathlib.Core.Path.{sym, _∙_}
 use borrow.Author.Needs.{needs}
-use borrow.Author.Tests.{not-true}
-use Rattle.search.proofs.HopelessLaws.{noting-last, last-cut}
+use Rattle.search.proofs.LastClassLaws.{place-of-last, last-cut}
 use Rattle.search.proofs.cuts.last_class_fails.Statement.{statement}
 use Rattle.search.proofs.cuts.last_class_fails.Tie as tie
 
 has-mask-requires : tie.Need-has-mask-requires
 has-mask-requires c κs =
     let s = c .before .before .before .before in
-    (s .pre .0, (s .pre .1 .0, noting-last (s .pre .1 .1 .0) (s .pre .1 .1 .1) (c .before .class-members .result) (c .before .class-members .ensures)))
+    (s .pre .0 .few-sets, (s .pre .0 .remembered, place-of-last (s .pre .0 .placing) (s .pre .1) (c .before .class-members .result) (c .before .class-members .ensures)))
 
 returns : tie.Need-returns
 returns c =
     let s = c .before .before .before .before .before .before .before in
     let asked = c .before .before .has-mask in
     let members = c .before .before .before .before .class-members in (
-      λ e. last-cut (s .pre .1 .1 .0) (s .pre .1 .1 .1) (members .result) (members .ensures) (s .args .rows .now) (s .args .sets) (sym (asked .ensures .0) ∙ not-true (asked .result) e),
+      λ e. last-cut (s .pre .0 .placing) (s .pre .1) (members .result) (members .ensures) (s .args .rows .now) (s .args .sets) (asked .result) (asked .ensures .0) e,
       asked .ensures .1,
     )
 

@@ -4,9 +4,9 @@ use mathlib.Core.Path.{sym, _∙_}
 use mathlib.Core.Bool.{false≢true}
 use native.Mathlib.Omega.{arith}
 use borrow.Author.Needs.{needs}
-use borrow.Author.Tests.{not-true}
 use Rattle.search.specs.Memos.{Memo}
-use Rattle.search.proofs.HopelessLaws.{members-few, class-cut-here}
+use Rattle.search.proofs.MemoLaws.{members-few}
+use Rattle.search.proofs.SettledLaws.{settled-class-cut}
 use Rattle.search.proofs.cuts.some_class_fails.Statement.{statement}
 use Rattle.search.proofs.cuts.some_class_fails.Tie as tie
 
@@ -20,7 +20,7 @@ has-mask-at-all-requires : tie.Need-has-mask-at-all-requires Inv-loop μ-loop
 has-mask-at-all-requires c κs =
     let l = c .before .before .before in
     let s = l .before .before .before in
-    (s .pre .0, (l .loop .inv .1, members-few (s .pre .1 .1 .0) (l .loop .k) (c .before .class-members .result) (c .before .class-members .ensures)))
+    (s .pre .0 .few-sets, (l .loop .inv .1, members-few (s .pre .0 .placing) (l .loop .k) (c .before .class-members .result) (c .before .class-members .ensures)))
 
 returns : tie.Need-returns Inv-loop μ-loop
 returns c =
@@ -28,8 +28,8 @@ returns c =
     let s = l .before .before .before in
     let asked = c .before .before .before .has-mask-at-all in
     let members = c .before .before .before .before .before .class-members in (
-      λ e. class-cut-here (s .pre .1 .1 .0) (s .args .rows .now) (s .args .sets) (s .pre .1 .1 .1) (l .loop .k) (members .result) (c .before .before .before .before .before .before .loop-test .taken) (members .ensures)
-          (sym (asked .ensures .0) ∙ not-true (asked .result) (c .if1 .taken)),
+      λ e. settled-class-cut (s .pre .0 .placing) (s .args .rows .now) (s .args .sets) (s .pre .1) (l .loop .k) (members .result) (c .before .before .before .before .before .before .loop-test .taken) (members .ensures)
+          (asked .result) (asked .ensures .0) (c .if1 .taken),
       asked .ensures .1,
     )
 
@@ -39,13 +39,13 @@ some-class-fails-spec =
     (tie.spec
     Inv-loop
     μ-loop
-    (λ c. (omega arith, c .before .before .pre .1 .0))
-    (λ c κs. omega (arith, c .before .before .before .before .pre .1 .1 .0 .few-terms))
+    (λ c. (omega arith, c .before .before .pre .0 .remembered))
+    (λ c κs. omega (arith, c .before .before .before .before .pre .0 .placing .few-terms))
     has-mask-at-all-requires
-    (λ c. c .before .before .before .has-mask-at-all .ensures .1 .long ∙ sym (c .before .before .before .before .before .before .before .before .before .before .pre .1 .0 .long))
+    (λ c. c .before .before .before .has-mask-at-all .ensures .1 .long ∙ sym (c .before .before .before .before .before .before .before .before .before .before .pre .0 .remembered .long))
     returns
     (λ c. search needs)
     (λ c. search needs)
     (λ c. (omega arith, c .before .before .before .has-mask-at-all .ensures .1))
-    (λ c. c .before .loop .inv .1 .long ∙ sym (c .before .before .before .before .pre .1 .0 .long))
+    (λ c. c .before .loop .inv .1 .long ∙ sym (c .before .before .before .before .pre .0 .remembered .long))
     (λ c. ((λ e. absurd (false≢true e)), c .before .loop .inv .1)))

@@ -18,7 +18,7 @@ term-fits-nowhere-requires : tie.Need-term-fits-nowhere-requires Inv-loop μ-loo
 term-fits-nowhere-requires c κs =
     let l = c .before .before in
     let s = l .before .before .before in
-    (s .pre .0, (l .loop .inv .2, (s .pre .1 .1 .0, (s .pre .1 .1 .1 .0, (l .loop .inv .0, omega (arith, s .pre .1 .1 .1 .1))))))
+    (record { few-sets = s .pre .0 .few-sets; remembered = l .loop .inv .2; placing = s .pre .0 .placing }, (s .pre .1 .0, (l .loop .inv .0, omega (arith, s .pre .1 .1))))
 
 returns : tie.Need-returns Inv-loop μ-loop
 returns c =
@@ -32,13 +32,13 @@ some-term-fits-nowhere-spec =
     (tie.spec
     Inv-loop
     μ-loop
-    (λ c. (omega arith, omega arith, c .before .before .pre .1 .0))
+    (λ c. (omega arith, omega arith, c .before .before .pre .0 .remembered))
     (λ c. search needs)
     term-fits-nowhere-requires
-    (λ c. c .before .before .before .term-fits-nowhere .ensures .1 .long ∙ sym (c .before .before .before .before .before .before .before .before .before .pre .1 .0 .long))
+    (λ c. c .before .before .before .term-fits-nowhere .ensures .1 .long ∙ sym (c .before .before .before .before .before .before .before .before .before .pre .0 .remembered .long))
     returns
-    (λ c. omega (arith, c .before .before .before .before .before .before .before .before .before .pre .1 .1 .1 .1))
+    (λ c. omega (arith, c .before .before .before .before .before .before .before .before .before .pre .1 .1))
     (λ c. search needs)
     (λ c. (omega arith, omega arith, c .before .before .before .term-fits-nowhere .ensures .1))
-    (λ c. c .before .loop .inv .2 .long ∙ sym (c .before .before .before .before .pre .1 .0 .long))
+    (λ c. c .before .loop .inv .2 .long ∙ sym (c .before .before .before .before .pre .0 .remembered .long))
     (λ c. ((λ e. absurd (false≢true e)), c .before .loop .inv .2)))

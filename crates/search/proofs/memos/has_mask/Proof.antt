@@ -1,10 +1,9 @@
 -- `has_mask` reads what is noted, or looks for the smallest mask and notes whether there is one.
-use mathlib.Core.Path.{_≡_, sym, ap}
-use mathlib.Core.Option.{none, some}
+use mathlib.Core.Path.{sym, ap}
 use native.Mathlib.Omega.{arith}
 use borrow.Author.Needs.{needs}
-use Rattle.search.specs.Memos.{maskOfClass, isThere, noted}
-use Rattle.search.proofs.MemoLaws.{noting-below, memo-read, memo-note}
+use Rattle.search.specs.Memos.{isThere, noted}
+use Rattle.search.proofs.MemoLaws.{place-below, memo-read, memo-note}
 use Rattle.search.proofs.SmallestLaws.{mask-is, mask-lacks}
 use Rattle.search.proofs.memos.has_mask.Statement.{statement}
 use Rattle.search.proofs.memos.has_mask.Tie as tie
@@ -33,13 +32,13 @@ pub has-mask-spec : {M : Type 1} → statement M
 has-mask-spec =
     tie.close
     (tie.spec
-    (λ c. let s = c .before .before .before in omega (arith, noting-below (s .args .at) (s .args .class) (s .args .placed) (s .pre .1 .1), s .pre .1 .0 .long))
+    (λ c. let s = c .before .before .before in omega (arith, place-below (s .args .at) (s .args .class) (s .args .placed) (s .pre .1 .1), s .pre .1 .0 .long))
     returns
     (λ c κs. search needs)
     (λ c. search needs)
-    (λ c. let s = c .before .before .before .before .before .before .before in omega (arith, noting-below (s .args .at) (s .args .class) (s .args .placed) (s .pre .1 .1), s .pre .1 .0 .long))
+    (λ c. let s = c .before .before .before .before .before .before .before in omega (arith, place-below (s .args .at) (s .args .class) (s .args .placed) (s .pre .1 .1), s .pre .1 .0 .long))
     (λ c. search needs)
-    (λ c. let s = c .before .before .before .before .before .before .before in omega (arith, noting-below (s .args .at) (s .args .class) (s .args .placed) (s .pre .1 .1), s .pre .1 .0 .long))
+    (λ c. let s = c .before .before .before .before .before .before .before in omega (arith, place-below (s .args .at) (s .args .class) (s .args .placed) (s .pre .1 .1), s .pre .1 .0 .long))
     (λ c. search needs)
     returns-2
     (λ c. search needs)

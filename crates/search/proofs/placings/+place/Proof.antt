@@ -1,7 +1,7 @@
 -- `place` is a recursion over the terms still to be placed, and that number falls. Its loop stands before the class c:
 -- what is found is what is found from there on, and the memo is right.
 use Prim.Native.Nat.{ℕ, suc, _+_, _-_, _≤_, _<_}
-use mathlib.Core.Path.{_≡_, sym, ap, subst, _∙_}
+use mathlib.Core.Path.{_≡_, sym, subst, _∙_}
 use mathlib.Core.List.{map}
 use native.Mathlib.Omega.{arith}
 use borrow.Author.Needs.{needs}
@@ -13,10 +13,9 @@ use Rattle.theory.specs.Solutions.{allRows}
 use Rattle.theory.specs.Sets.{rowDeclared}
 use Rattle.row.specs.Rows.{rowOf}
 use Rattle.search.specs.Answers.{answerOf}
-use Rattle.search.specs.Placings.{found}
 use Rattle.search.specs.Memos.{Memo}
 use Rattle.search.proofs.PlacingLaws.{placing-next}
-use Rattle.search.proofs.StepLaws.{some-left, room, as-many, fewer, none-left, answer-none, Before, all-placed, before-first, found-next, class-hit, class-miss, class-end, foundIn}
+use Rattle.search.proofs.StepLaws.{some-left, room, as-many, fewer, none-left, foundIn, Before, answer-none, answer-whole, before-first, answer-next, class-hit, class-miss, class-end}
 use Rattle.search.proofs.answers.is_possible.Reads as is-possible
 use Rattle.search.proofs.answers.without_model.Reads as without-model
 use Rattle.search.proofs.cuts.hopeless.Reads as hopeless
@@ -62,31 +61,32 @@ module _ (t : ℕ) where
   returns : lts.Need-returns claims here place.Post Inv-loop μ-loop
   returns c =
       let told = c .before .before .before .before .hopeless .ensures in
-      (answer-none (c .without-model .ensures) (told .0 (c .before .if1 .taken)), told .1)
+      let a = c .before .before .before .before .before .before .before .before .args in
+      (answer-none (a .rows .now) (a .sets) (a .arrangement) (a .placed) (a .left) (a .used) (c .without-model .result) (c .without-model .ensures) (told .0 (c .before .if1 .taken)), told .1)
 
   model-requires : lts.Need-model-requires claims here place.Post Inv-loop μ-loop
   model-requires c κs =
       let s = c .before .before .before .before .before .before .before .before in
       let a = s .args in
-      (s .pre .1 .0, (subst (λ n. T (allRows (rowDeclared n (a .sets)) (map rowOf (a .rows .now)))) (none-left (a .placed) (a .left) (c .if2 .taken)) (s .pre .1 .1 .0), s .pre .1 .1 .1 .1 .1 .0))
+      (s .pre .1 .0 .few-sets, (subst (λ n. T (allRows (rowDeclared n (a .sets)) (map rowOf (a .rows .now)))) (none-left (a .placed) (a .left) (c .if2 .taken)) (s .pre .1 .1 .1 .0), s .pre .1 .0 .placing))
 
   returns-2 : lts.Need-returns-2 claims here place.Post Inv-loop μ-loop
   returns-2 c =
       let a = c .before .before .before .before .before .before .before .before .before .args in
-      (c .model .ensures ∙ ap answerOf (sym (all-placed (a .rows .now) (a .sets) (a .arrangement) (a .placed) (a .left) (a .used) (c .before .if2 .taken))), c .before .before .before .before .before .hopeless .ensures .1)
+      (answer-whole (a .rows .now) (a .sets) (a .arrangement) (a .placed) (a .left) (a .used) (c .model .result) (c .before .if2 .taken) (c .model .ensures), c .before .before .before .before .before .hopeless .ensures .1)
 
   loop-holds : lts.Need-loop-holds claims here place.Post Inv-loop μ-loop
   loop-holds c =
       let s = c .before .before .before .before .before .before .before .before in
       let a = s .args in
-      (omega arith, before-first (a .rows .now) (a .sets) (a .arrangement) (a .placed) (a .left) (a .used) (s .pre .1 .1 .1 .1 .1 .0) (some-left (a .placed) (a .left) (c .if2 .left)), c .before .before .before .before .hopeless .ensures .1)
+      (omega arith, before-first (a .rows .now) (a .sets) (a .arrangement) (a .placed) (a .left) (a .used) (s .pre .1 .0 .placing) (some-left (a .placed) (a .left) (c .if2 .left)), c .before .before .before .before .hopeless .ensures .1)
 
   -- the state at the call's start, seen from its loop
   abbrev start : lts.At-loop claims here place.Post Inv-loop μ-loop → lts.Start claims here place.Post Inv-loop μ-loop
   start l = l .before .before .before .before .before .before .before .before .before
 
   room-here : (l : lts.At-loop claims here place.Post Inv-loop μ-loop) → start l .args .placed < maxTerms
-  room-here l = room (start l .args .placed) (start l .args .left) (l .before .if2 .left) (start l .pre .1 .1 .1 .1 .1 .1)
+  room-here l = room (start l .args .placed) (start l .args .left) (l .before .if2 .left) (start l .pre .1 .1 .0)
 
   -- the class tried is one that is allowed
   allowed : (c : lts.In-loop claims here place.Post Inv-loop μ-loop) → c .before .loop .c ≤ start (c .before) .args .used
@@ -100,17 +100,12 @@ module _ (t : ℕ) where
       let all = as-many (a .placed) (a .left) (l .before .if2 .left) in (
         fewer (a .placed) (a .left) (l .before .if2 .left) t (s .pre .0),
         (
-          s .pre .1 .0,
-          (
-            subst (λ n. T (allRows (rowDeclared n (a .sets)) (map rowOf (a .rows .now)))) all (s .pre .1 .1 .0),
-            (
-              s .pre .1 .1 .1 .0,
-              (
-                l .loop .inv .2,
-                (placing-next (s .pre .1 .1 .1 .1 .1 .0) (l .loop .c) (room-here l) (c .before .classes-with .result) (allowed (c .before .before)) (c .before .classes-with .ensures), subst (λ n. n ≤ maxTerms) all (s .pre .1 .1 .1 .1 .1 .1)),
-              ),
-            ),
-          ),
+          record {
+            few-sets = s .pre .1 .0 .few-sets;
+            remembered = l .loop .inv .2;
+            placing = placing-next (s .pre .1 .0 .placing) (l .loop .c) (room-here l) (c .before .classes-with .result) (allowed (c .before .before)) (c .before .classes-with .ensures);
+          },
+          (subst (λ n. n ≤ maxTerms) all (s .pre .1 .1 .0), (subst (λ n. T (allRows (rowDeclared n (a .sets)) (map rowOf (a .rows .now)))) all (s .pre .1 .1 .1 .0), s .pre .1 .1 .1 .1)),
         ),
       )
 
@@ -121,7 +116,7 @@ module _ (t : ℕ) where
       let l = c .before .before .before .before in
       let s = start l in
       let a = s .args in
-      c .place .ensures .0 ∙ ap answerOf (found-next (a .rows .now) (a .sets) (a .arrangement) (a .placed) (a .left) (a .used) (s .pre .1 .1 .1 .1 .1 .0) (l .loop .c) (room-here l))
+      answer-next (a .rows .now) (a .sets) (a .arrangement) (a .placed) (a .left) (a .used) (s .pre .1 .0 .placing) (l .loop .c) (c .place .result) (room-here l) (c .place .ensures .0)
 
   returns-3 : lts.Need-returns-3 claims here place.Post Inv-loop μ-loop
   returns-3 c =
@@ -129,7 +124,7 @@ module _ (t : ℕ) where
       let l = call .before .before .before .before in
       let a = start l .args in (
         class-hit (a .rows .now) (a .sets) (a .arrangement) (a .placed) (a .left) (a .used) (l .loop .c) (call .place .result) (allowed (call .before .before .before)) (called call) (l .loop .inv .1)
-            (sym (c .before .is-possible .ensures) ∙ c .if3 .taken),
+            (c .before .is-possible .result) (c .before .is-possible .ensures) (c .if3 .taken),
         call .place .ensures .1,
       )
 
@@ -140,7 +135,7 @@ module _ (t : ℕ) where
       let a = start l .args in (
         omega arith,
         class-miss (a .rows .now) (a .sets) (a .arrangement) (a .placed) (a .left) (a .used) (l .loop .c) (call .place .result) (allowed (call .before .before .before)) (called call) (l .loop .inv .1)
-            (sym (c .before .is-possible .ensures) ∙ c .if3 .left),
+            (c .before .is-possible .result) (c .before .is-possible .ensures) (c .if3 .left),
         call .place .ensures .1,
       )
 
@@ -148,30 +143,30 @@ module _ (t : ℕ) where
   returns-4 c =
       let l = c .before .before in
       let a = start l .args in
-      (answer-none (c .without-model2 .ensures) (class-end (a .rows .now) (a .sets) (a .arrangement) (a .placed) (a .left) (a .used) (l .loop .c) (c .before .loop-test .left) (l .loop .inv .1)), l .loop .inv .2)
+      (answer-none (a .rows .now) (a .sets) (a .arrangement) (a .placed) (a .left) (a .used) (c .without-model2 .result) (c .without-model2 .ensures) (class-end (a .rows .now) (a .sets) (a .arrangement) (a .placed) (a .left) (a .used) (l .loop .c) (c .before .loop-test .left) (l .loop .inv .1)), l .loop .inv .2)
 
 pub +place-spec : {M : Type 1} → statement M
 +place-spec =
     close μ-place λ t. lts.spec (claims t) (here t) place.Post Inv-loop μ-loop
-    (λ c κs. let s = c .before .before .before in (s .pre .1 .0, (s .pre .1 .1 .1 .1 .0, (s .pre .1 .1 .1 .1 .1 .0, (s .pre .1 .1 .1 .0, s .pre .1 .1 .1 .1 .1 .1)))))
+    (λ c κs. let s = c .before .before .before in (s .pre .1 .0, (s .pre .1 .1 .1 .1, s .pre .1 .1 .0)))
     (λ c κs. search needs)
-    (λ c. c .before .before .before .before .hopeless .ensures .1 .long ∙ sym (c .before .before .before .before .before .before .before .before .pre .1 .1 .1 .1 .0 .long))
+    (λ c. c .before .before .before .before .hopeless .ensures .1 .long ∙ sym (c .before .before .before .before .before .before .before .before .pre .1 .0 .remembered .long))
     (returns t)
     (model-requires t)
-    (λ c. c .before .before .before .before .before .hopeless .ensures .1 .long ∙ sym (c .before .before .before .before .before .before .before .before .before .pre .1 .1 .1 .1 .0 .long))
+    (λ c. c .before .before .before .before .before .hopeless .ensures .1 .long ∙ sym (c .before .before .before .before .before .before .before .before .before .pre .1 .0 .remembered .long))
     (returns-2 t)
     (loop-holds t)
     (λ c. room-here t (c .before))
-    (λ c κs. omega (arith, start t (c .before) .pre .1 .1 .1 .1 .1 .0))
+    (λ c κs. omega (arith, start t (c .before) .pre .1 .0 .placing))
     (λ c. omega (arith, room-here t (c .before .before .before)))
     (λ c. let l = c .before .before .before in some-left (start t l .args .placed) (start t l .args .left) (l .before .if2 .left))
     (place-requires t)
     (λ c κs. search needs)
-    (λ c. c .before .before .before .before .place .ensures .1 .long ∙ sym (start t (c .before .before .before .before .before .before .before .before) .pre .1 .1 .1 .1 .0 .long))
+    (λ c. c .before .before .before .before .place .ensures .1 .long ∙ sym (start t (c .before .before .before .before .before .before .before .before) .pre .1 .0 .remembered .long))
     (returns-3 t)
-    (λ c. omega (arith, start t (c .before .before .before .before .before .before .before .before) .pre .1 .1 .1 .1 .1 .0))
+    (λ c. omega (arith, start t (c .before .before .before .before .before .before .before .before) .pre .1 .0 .placing))
     (λ c. search needs)
     (loop-again t)
     (λ c κs. search needs)
-    (λ c. c .before .before .loop .inv .2 .long ∙ sym (start t (c .before .before) .pre .1 .1 .1 .1 .0 .long))
+    (λ c. c .before .before .loop .inv .2 .long ∙ sym (start t (c .before .before) .pre .1 .0 .remembered .long))
     (returns-4 t)

@@ -1,0 +1,70 @@
+-- The answer to rows that are handed in: which way it goes, and what a verdict is worth.
+use Prim.Native.Nat.{ℕ, _^_}
+use mathlib.Core.Path.{_≡_, refl, sym, ap, _∙_}
+use mathlib.Core.List.{List, [], map}
+use mathlib.Core.Option.{Option, none, some}
+use native.Mathlib.Omega.{arith}
+use Rattle.question.specs.declared.refusals.Refusal.{Refusal}
+use Rattle.question.specs.declared.checks.TableCheck.{TableCheck}
+use Rattle.question.specs.declared.checks.TableCheck.the-variants.{Accepted, Refused as RowsRefused}
+use Rattle.theory.specs.Rules.{Row}
+use Rattle.theory.specs.Solutions.{Solution, IsSolution}
+use Rattle.theory.specs.FirstModels.{firstModel, IsFirstModel}
+use Rattle.theory.specs.Sets.{Test, fits}
+use Rattle.theory.proofs.RuleLaws.{TermsBelow}
+use Rattle.theory.proofs.FirstModelLaws.{firstModel-first, firstModel-none}
+use Rattle.theory.proofs.RowListLaws.{declared-below}
+use Rattle.row.specs.Rows.{rowOf}
+use Rattle.row.specs.Checks.{rowsChecked}
+use Rattle.row.proofs.AcceptedRows.{rows-keep, all-declared}
+use Rattle.cut.proofs.BehindLaws.{behind-nothing}
+use Rattle.search.specs.declared.answers.Verdict.the-variants.{Possible, Impossible, Refused}
+use Rattle.search.specs.declared.answers.SearchAnswer.{SearchAnswer}
+use Rattle.search.specs.Answers.{padded, withoutModel, answerOf, acceptedThen, searched}
+use Rattle.search.specs.Placings.{found}
+
+module _ (terms sets : ℕ) (rows : List ℕ) where
+  -- the rows that the numbers say, and what is found: the first model of those
+  abbrev said : List (Row Test)
+  said = map rowOf rows
+
+  abbrev first : Option Solution
+  first = firstModel fits terms (2 ^ sets) said
+
+  -- with no term placed, what is found is the first model
+  pub answer-first : (r : SearchAnswer) → r ≡ answerOf (found rows sets (padded []) 0 terms) → r ≡ answerOf first
+  answer-first r is = is ∙ ap answerOf (behind-nothing (2 ^ sets) said terms)
+
+  module _ (r : SearchAnswer) (check : TableCheck) (checked : check ≡ rowsChecked terms sets rows) where
+    pub searched-accepted : check ≡ Accepted → r ≡ answerOf first → r ≡ searched terms sets rows
+    unfolding searched
+    searched-accepted e is = is ∙ ap (λ t. acceptedThen t (answerOf first)) (sym e ∙ checked)
+
+    pub searched-refused : (why : Refusal) → check ≡ RowsRefused why → r ≡ withoutModel (Refused why) → r ≡ searched terms sets rows
+    unfolding searched
+    searched-refused why e is = is ∙ ap (λ t. acceptedThen t (answerOf first)) (sym e ∙ checked)
+
+  module _ (accepted : rowsChecked terms sets rows ≡ Accepted) where
+    below : TermsBelow terms said
+    below = declared-below terms sets said (all-declared terms sets rows (rows-keep terms sets rows accepted .all-good))
+
+    answered : searched terms sets rows ≡ answerOf first
+    answered = sym (searched-accepted (answerOf first) Accepted (sym accepted) refl refl)
+
+    -- possible: the answer shows the first model
+    pub possible-worth : searched terms sets rows .verdict ≡ Possible → (sol : Solution) × IsFirstModel fits terms (2 ^ sets) said sol × (searched terms sets rows ≡ answerOf (some sol))
+    unfolding answerOf
+    possible-worth v = go first refl
+      where
+        go : (o : Option Solution) → first ≡ o → (sol : Solution) × IsFirstModel fits terms (2 ^ sets) said sol × (searched terms sets rows ≡ answerOf (some sol))
+        go none e = let never : Possible ≡ Impossible = sym v ∙ ap (λ (a : SearchAnswer). a .verdict) (answered ∙ ap answerOf e) in let z : _≡_ {A = ℕ} 0 1 = cc in absurd (omega arith)
+        go (some sol) e = (sol, firstModel-first fits terms (2 ^ sets) said below sol .0 e, answered ∙ ap answerOf e)
+
+    -- impossible: there is no solution
+    pub impossible-worth : searched terms sets rows .verdict ≡ Impossible → (sol : Solution) → IsSolution fits terms (2 ^ sets) said sol → ⊥
+    unfolding answerOf
+    impossible-worth v = go first refl
+      where
+        go : (o : Option Solution) → first ≡ o → (sol : Solution) → IsSolution fits terms (2 ^ sets) said sol → ⊥
+        go none e = firstModel-none fits terms (2 ^ sets) said below .0 e
+        go (some sol) e = let never : Impossible ≡ Possible = sym v ∙ ap (λ (a : SearchAnswer). a .verdict) (answered ∙ ap answerOf e) in let z : _≡_ {A = ℕ} 0 1 = cc in absurd (omega arith)

@@ -1,0 +1,12 @@
+-- What a step of the search may rely on.
+use Prim.Native.Nat.{ℕ, _≤_}
+use mathlib.Core.List.{List}
+use Rattle.question.specs.Limits.{maxSets}
+use Rattle.search.specs.Placings.{Placing}
+use Rattle.search.specs.Memos.{Memo}
+
+-- the first terms are placed, what the memo notes is right, and masks are wide enough
+pub record Standing (rows : List ℕ) (sets : ℕ) (memo arrangement : List ℕ) (placed used : ℕ) : Type 0 where
+  pub few-sets : sets ≤ maxSets
+  pub remembered : Memo rows sets memo
+  pub placing : Placing arrangement placed used
