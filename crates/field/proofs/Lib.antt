@@ -1,4 +1,5 @@
--- Laws that belong to no one function.
+-- Laws that belong to no one function: of the table, of heads, and of fields that are written.
+pub mod Never
 pub mod TagLaws
 pub mod HeadLaws
 pub mod WriteLaws

@@ -1,6 +1,6 @@
 -- The look-up of a tag as a walk over the table; the table's rule, proved by one computed test; and what holds of each entry that a file knows.
 use Prim.Native.Nat.{ℕ, zero, suc, _+_, _≤_, _<_}
-use mathlib.Core.Path.{_≡_, refl, sym, ap, subst, _∙_}
+use mathlib.Core.Path.{_≡_, refl, ap, subst}
 use mathlib.Core.Bool.{Bool, true, false, _&&_, cond}
 use mathlib.Core.List.{List, [], _∷_}
 use native.Mathlib.Omega.{arith}
@@ -15,6 +15,7 @@ use Rattle.field.specs.declared.tags.BodyLength.{BodyLength}
 use Rattle.field.specs.declared.tags.BodyLength.the-variants.{Unknown, Fixed, Depends}
 use Rattle.field.specs.declared.tags.Entry.{Entry}
 use Rattle.field.specs.Tags.{fieldTable, noEntry, knows, stands, lengthIn, lengthOf, isKnown}
+use Rattle.field.proofs.Never.{never}
 
 -- one turn of the walk, over any table
 module _ (file : File) (tag : ℕ) (t : List Entry) where
@@ -44,13 +45,13 @@ same Depends Depends = true
 
 same-is : (a b : BodyLength) → same a b ≡ true → a ≡ b
 same-is Unknown Unknown e = refl
-same-is Unknown (Fixed n) e = let z : _≡_ {A = ℕ} 0 1 = cc in absurd (omega arith)
-same-is Unknown Depends e = let z : _≡_ {A = ℕ} 0 1 = cc in absurd (omega arith)
-same-is (Fixed m) Unknown e = let z : _≡_ {A = ℕ} 0 1 = cc in absurd (omega arith)
+same-is Unknown (Fixed n) e = never cc
+same-is Unknown Depends e = never cc
+same-is (Fixed m) Unknown e = never cc
 same-is (Fixed m) (Fixed n) e = ap Fixed (eqb-true m n e)
-same-is (Fixed m) Depends e = let z : _≡_ {A = ℕ} 0 1 = cc in absurd (omega arith)
-same-is Depends Unknown e = let z : _≡_ {A = ℕ} 0 1 = cc in absurd (omega arith)
-same-is Depends (Fixed n) e = let z : _≡_ {A = ℕ} 0 1 = cc in absurd (omega arith)
+same-is (Fixed m) Depends e = never cc
+same-is Depends Unknown e = never cc
+same-is Depends (Fixed n) e = never cc
 same-is Depends Depends e = refl
 
 -- what a file should know of an entry's tag
@@ -63,7 +64,7 @@ every f (e ∷ es) = f e && every f es
 
 both : (a b : Bool) → (a && b) ≡ true → (a ≡ true) × (b ≡ true)
 both true b e = (refl, e)
-both false b e = let z : _≡_ {A = ℕ} 0 1 = cc in absurd (omega arith)
+both false b e = never cc
 
 every-at : (f : Entry → Bool) (t : List Entry) → every f t ≡ true → (i : ℕ) → i < length t → f (getD t i noEntry) ≡ true
 every-at f [] e i h = absurd (omega arith)
@@ -95,7 +96,7 @@ AllKnown file P (e ∷ es) = cond (knows file (e .2)) (P (e .0) (e .1)) (Unit {0
 -- holds of every tag that the file knows, with its length
 pub by-table : (file : File) (P : ℕ → BodyLength → Type 0) (t : List Entry) → AllKnown file P t → (tag : ℕ) → isKnown (lengthIn file t tag) ≡ true → P tag (lengthIn file t tag)
 unfolding lengthIn
-by-table file P [] all tag k = let z : _≡_ {A = ℕ} 0 1 = cc in absurd (omega arith)
+by-table file P [] all tag k = never cc
 by-table file P (e ∷ es) all tag k = go (eqb (e .0) tag) (knows file (e .2)) refl (all .0) (by-table file P es (all .1) tag) k
   where
     go : (a b : Bool) → eqb (e .0) tag ≡ a → cond b (P (e .0) (e .1)) (Unit {0}) → (isKnown (lengthIn file es tag) ≡ true → P tag (lengthIn file es tag)) →

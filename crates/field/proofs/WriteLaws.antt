@@ -1,14 +1,12 @@
 -- A field that fits is written whole, and one that does not leaves the part as it was.
 use Prim.Native.Nat.{ℕ, _+_, _≤_, _<_}
-use mathlib.Core.Path.{_≡_, refl, sym, _∙_}
-use mathlib.Core.Bool.{true, false}
+use mathlib.Core.Path.{_≡_, refl}
 use mathlib.Core.List.{List}
-use native.Mathlib.Omega.{arith}
 use borrow.Author.Tests.{le-leb, lt-leb}
 use lib.ListN.{length}
 use Rattle.field.specs.Heads.{fieldBytes}
 use Rattle.outcome.specs.Over.{over}
-use Rattle.field.specs.Writes.{longestBody, fieldFits, fieldCount, fieldOver}
+use Rattle.field.specs.Writes.{longestBody, fieldCount, fieldOver}
 
 module _ (tag : ℕ) (body old : List ℕ) where
   pub written : length body ≤ longestBody → 3 + length body ≤ length old → (fieldCount body (length old) ≡ 3 + length body) × (fieldOver tag body old ≡ over (fieldBytes tag body) old)

@@ -19,6 +19,7 @@ entry tag length home = record { 0 = tag; 1 = length; 2 = home }
 abbrev pub noEntry : Entry
 noEntry = entry 0 Unknown Question
 
+-- the table: each tag of question and answer files with its body length
 abbrev pub fieldTable : List Entry
 fieldTable =
     entry 0x01 (Fixed 2) Question
@@ -60,6 +61,7 @@ unfoldable pub lengthIn : File → List Entry → ℕ → BodyLength
 lengthIn file [] tag = Unknown
 lengthIn file (e ∷ es) tag = cond (stands file tag e) (e .1) (lengthIn file es tag)
 
+-- what a file knows of a tag
 abbrev pub lengthOf : File → ℕ → BodyLength
 lengthOf file = lengthIn file fieldTable
 
@@ -69,7 +71,7 @@ isKnown Unknown = false
 isKnown (Fixed n) = true
 isKnown Depends = true
 
--- may a body be this long, as far as the table tells: a length that depends is for the reader to judge
+-- may a body be this long, as far as the table tells: a length that depends is for the caller to judge
 abbrev pub isAllowed : BodyLength → ℕ → Bool
 isAllowed Unknown n = false
 isAllowed (Fixed due) n = eqb n due

@@ -58,6 +58,7 @@ fn listed(i: usize) -> Entry
     FIELDS[i]
 }
 
+// Does a kind of file know the tags that stand there.
 fn known_at(file: File, home: Home) -> bool
     ensures { λ r. ⌜ r ≡ knows file home ⌝ }
 {
@@ -105,6 +106,7 @@ pub fn length_of(file: File, tag: u8) -> BodyLength
 }
 
 impl BodyLength {
+    // Does the file know the tag.
     pub fn is_known(self) -> bool
         ensures { λ r. ⌜ r ≡ isKnown self ⌝ }
     {
@@ -115,7 +117,7 @@ impl BodyLength {
         }
     }
 
-    // May a body be this long, as far as the table tells.
+    // May a body be this long, as far as the table tells; a length that depends is for the caller to judge.
     pub fn is_allowed(self, length: usize) -> bool
         ensures { λ r. ⌜ r ≡ isAllowed self length ⌝ }
     {

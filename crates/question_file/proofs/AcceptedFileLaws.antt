@@ -1,21 +1,22 @@
 -- The reader at a file that it accepts: field by field, what it has read is the file of the question that it made, and the question is accepted.
-use Prim.Native.Nat.{ℕ, zero, suc, _+_, _-_, _≤_, _<_}
-use mathlib.Core.Path.{_≡_, refl, sym, ap, ap₂, subst, _∙_}
+use Prim.Native.Nat.{ℕ, zero, suc, _+_, _≤_, _<_}
+use mathlib.Core.Path.{_≡_, refl, sym, ap, _∙_}
 use mathlib.Core.Bool.{Bool, true, false, cond}
 use mathlib.Core.List.{List, [], _∷_, _++_, append-nil, append-assoc}
 use native.Mathlib.Omega.{arith}
 use borrow.Author.Tests.{ltb-false}
 use lib.Dec.{ltb}
-use lib.ListN.{length, take, drop, length-append, length-drop}
+use lib.ListN.{length, drop, length-append, length-drop}
 use Rattle.question.specs.declared.statements.Statement.{Statement}
 use Rattle.question.specs.declared.questions.Question.{Question}
 use Rattle.question.specs.declared.admissions.Admission.the-variants.{Admitted}
 use Rattle.question.specs.declared.checks.TableCheck.the-variants.{Accepted as AcceptedTable}
-use Rattle.question.specs.Limits.{maxElements, maxSets, maxStatements, maxTerms}
+use Rattle.question.specs.Limits.{maxElements, maxSets, maxStatements}
 use Rattle.question.specs.Refusals.{refusal, bytesAfterEnd}
 use Rattle.question.specs.Questions.{witness, witnesses, termsOf}
 use Rattle.question.specs.Admissions.{admission}
 use Rattle.question.specs.Checks.{statementsChecked}
+use Rattle.field.proofs.Never.{never}
 use Rattle.question_file.specs.declared.steps.Next.{Next}
 use Rattle.question_file.specs.declared.steps.Next.the-variants.{More, End, Refused}
 use Rattle.question_file.specs.declared.steps.Step.{Step}
@@ -25,9 +26,9 @@ use Rattle.question_file.specs.Bytes.{namesBytes, statementBytes, statem
 use Rattle.question_file.specs.Steps.{declaring, added, fieldStep}
 use Rattle.question_file.specs.Reads.{refusedFile, endedFile, follow, readFields, readQuestion, asRead}
 use Rattle.question_file.proofs.TakenFieldLaws.{Went, by-names, by-statement, Ended, went, ended}
-use Rattle.question_file.proofs.ReadLaws.{past, go-on, stop-end, stop-refused}
+use Rattle.question_file.proofs.ReadLaws.{past}
 use Rattle.question_file.proofs.AsReadLaws.{declaring-read, as-read-added, as-read-terms, Sound}
-use Rattle.question_file.proofs.ReadBackLaws.{admitted-first, witnesses-snoc}
+use Rattle.question_file.proofs.ReadBackLaws.{admitted-first}
 
 -- what has been read before the place `at`, where q is the question so far
 pub record ReadTo (bytes : List ℕ) (at : ℕ) (q : Question) : Type 0 where
@@ -132,13 +133,13 @@ module _ (bytes : List ℕ) where
     where
       go : (b : Bool) → ltb place (length bytes) ≡ b → cond b (refusedFile (refusal bytesAfterEnd place)) (record { outcome = Accepted; question = q }) .outcome ≡ Accepted →
           (length bytes ≤ place) × (cond b (refusedFile (refusal bytesAfterEnd place)) (record { outcome = Accepted; question = q }) .question ≡ q)
-      go true h e = let z : _≡_ {A = ℕ} 0 1 = cc in absurd (omega arith)
+      go true h e = never cc
       go false h e = (ltb-false place (length bytes) h, refl)
 
   -- the fields from a place on
   read-from : (n at : ℕ) (q : Question) → (at ≡ 0 → ⊥) → ReadTo bytes at q → readFields n bytes at q .outcome ≡ Accepted → WholeFile bytes (readFields n bytes at q .question)
   unfolding readFields
-  read-from zero at q later k e = let z : _≡_ {A = ℕ} 0 1 = cc in absurd (omega arith)
+  read-from zero at q later k e = never cc
   read-from (suc n) at q later k e = go (step .next) refl e (λ place r l. read-from n place r l)
     where
       step : Step
@@ -149,7 +150,7 @@ module _ (bytes : List ℕ) where
           WholeFile bytes (follow (length bytes) (readFields n bytes) x (step .question) .question)
       go (More place) p e on = let w = went-read at q place (step .question) later k (went (drop at bytes) at q place p) in on place (step .question) (w .1) (w .0) e
       go (End place) p e on = let a = end-accepted place (step .question) e in rw (a .1) (end-read at q place (step .question) k (ended (drop at bytes) at q place p) (a .0))
-      go (Refused r) p e on = let z : _≡_ {A = ℕ} 0 1 = cc in absurd (omega arith)
+      go (Refused r) p e on = never cc
 
 -- an accepted file is the file of the question that is read
 pub accepted-file : (bytes : List ℕ) → readQuestion bytes .outcome ≡ Accepted → WholeFile bytes (readQuestion bytes .question)
@@ -162,4 +163,4 @@ accepted-file bytes e = go (fieldStep bytes 0 (declaring 0 0) .next) refl e
     go : (x : Next) → step .next ≡ x → follow (length bytes) (readFields 65 bytes) x (step .question) .outcome ≡ Accepted → WholeFile bytes (follow (length bytes) (readFields 65 bytes) x (step .question) .question)
     go (More place) p e = let w = first-read bytes place (step .question) (went bytes 0 (declaring 0 0) place p) in read-from bytes 65 place (step .question) (w .1) (w .0) e
     go (End place) p e = absurd (ended bytes 0 (declaring 0 0) place p .later refl)
-    go (Refused r) p e = let z : _≡_ {A = ℕ} 0 1 = cc in absurd (omega arith)
+    go (Refused r) p e = never cc

@@ -4,8 +4,8 @@ use mathlib.Core.Path.{_≡_, refl, sym, ap, ap₂, _∙_}
 use mathlib.Core.List.{List, [], _∷_, _++_, map, map-append, append-assoc}
 use native.Mathlib.Omega.{arith}
 use borrow.Author.Tests.{le-ltb}
-use lib.ListN.{length, take, set, replicate, length-map, length-append, length-replicate}
-use lib.Seq.{set-at, take-at, append-snoc}
+use lib.ListN.{length, set, replicate, length-map, length-append, length-replicate}
+use lib.Seq.{set-at, take-at}
 use Rattle.question.specs.declared.statements.Statement.{Statement}
 use Rattle.question.specs.declared.questions.Record.{Record}
 use Rattle.question.specs.declared.questions.Question.{Question}
@@ -54,6 +54,9 @@ module _ (E S : ℕ) (ss : List Statement) where
     pub as-read-statements : statements (asRead E S ss) ≡ ss
     unfolding statements
     as-read-statements = ap (map (λ r. r .statement)) (take-at (map toRecord ss) _ (length ss) (length-map ss toRecord)) ∙ map-back ss
+
+    pub as-read-again : (q : Question) → q ≡ asRead E S ss → q ≡ asRead (q .elements) (q .sets) (statements q)
+    as-read-again q e = e ∙ sym (ap (λ x. asRead (x .elements) (x .sets) (statements x)) e ∙ ap (asRead E S) as-read-statements)
 
     pub as-read-terms : termsOf (asRead E S ss) ≡ E + witnesses ss
     unfolding termsOf

@@ -1,7 +1,7 @@
--- The table of tags beside the table of statements: a statement's field is listed with as many bytes as it has names, and each tag that a question file knows is 01, 7F or a statement's.
-use Prim.Native.Nat.{ℕ, suc, _+_, _≤_}
-use mathlib.Core.Path.{_≡_, refl, sym, ap, _∙_}
-use mathlib.Core.Bool.{Bool, true, false}
+-- The table of tags beside the table of statements, by the table's rule: a statement's field is listed with as many bytes as it has names, and each tag that a question file knows is 01, 7F or a statement's.
+use Prim.Native.Nat.{ℕ, _+_, _≤_}
+use mathlib.Core.Path.{_≡_, refl}
+use mathlib.Core.Bool.{true, false}
 use mathlib.Core.List.{List, [], _∷_, _++_}
 use native.Mathlib.Omega.{arith}
 use lib.Dec.{eqb}
@@ -12,8 +12,8 @@ use Rattle.question.specs.Statements.{tagOf}
 use Rattle.field.specs.declared.tags.File.the-variants.{Question as QuestionFile}
 use Rattle.field.specs.declared.tags.BodyLength.{BodyLength}
 use Rattle.field.specs.declared.tags.BodyLength.the-variants.{Fixed}
-use Rattle.field.specs.Tags.{fieldTable, lengthIn, lengthOf, isKnown}
-use Rattle.field.proofs.TagLaws.{AllKnown, by-table, _&_}
+use Rattle.field.specs.Tags.{fieldTable, lengthOf, isKnown}
+use Rattle.field.proofs.TagLaws.{rule, AllKnown, by-table, _&_}
 use Rattle.question_file.specs.declared.bodies.Made.the-variants.{Stated}
 use Rattle.question_file.specs.Bodies.{elementName, setName, bodyOf, statementOf}
 
@@ -26,18 +26,18 @@ pub record Field (s : Statement) : Type 0 where
   pub made : (rest : List ℕ) → statementOf (tagOf s) (getD (bodyOf s ++ rest) 0 0) (getD (bodyOf s ++ rest) 1 0) (getD (bodyOf s ++ rest) 2 0) ≡ Stated s
 
 pub field : (s : Statement) → Field s
-unfolding lengthIn statementOf
-field (ElementsEqual a b) = record { listed = refl; not-names = refl; not-end = refl; few = omega arith; made = λ rest. refl }
-field (ElementsDiffer a b) = record { listed = refl; not-names = refl; not-end = refl; few = omega arith; made = λ rest. refl }
-field (In a x) = record { listed = refl; not-names = refl; not-end = refl; few = omega arith; made = λ rest. refl }
-field (NotIn a x) = record { listed = refl; not-names = refl; not-end = refl; few = omega arith; made = λ rest. refl }
-field (SetsEqual x y) = record { listed = refl; not-names = refl; not-end = refl; few = omega arith; made = λ rest. refl }
-field (SetsDiffer x y) = record { listed = refl; not-names = refl; not-end = refl; few = omega arith; made = λ rest. refl }
-field (Empty x) = record { listed = refl; not-names = refl; not-end = refl; few = omega arith; made = λ rest. refl }
-field (Single x a) = record { listed = refl; not-names = refl; not-end = refl; few = omega arith; made = λ rest. refl }
-field (Union x y z) = record { listed = refl; not-names = refl; not-end = refl; few = omega arith; made = λ rest. refl }
-field (Intersection x y z) = record { listed = refl; not-names = refl; not-end = refl; few = omega arith; made = λ rest. refl }
-field (Difference x y z) = record { listed = refl; not-names = refl; not-end = refl; few = omega arith; made = λ rest. refl }
+unfolding statementOf
+field (ElementsEqual a b) = record { listed = rule QuestionFile 1 (omega arith); not-names = refl; not-end = refl; few = omega arith; made = λ rest. refl }
+field (ElementsDiffer a b) = record { listed = rule QuestionFile 2 (omega arith); not-names = refl; not-end = refl; few = omega arith; made = λ rest. refl }
+field (In a x) = record { listed = rule QuestionFile 3 (omega arith); not-names = refl; not-end = refl; few = omega arith; made = λ rest. refl }
+field (NotIn a x) = record { listed = rule QuestionFile 4 (omega arith); not-names = refl; not-end = refl; few = omega arith; made = λ rest. refl }
+field (SetsEqual x y) = record { listed = rule QuestionFile 5 (omega arith); not-names = refl; not-end = refl; few = omega arith; made = λ rest. refl }
+field (SetsDiffer x y) = record { listed = rule QuestionFile 6 (omega arith); not-names = refl; not-end = refl; few = omega arith; made = λ rest. refl }
+field (Empty x) = record { listed = rule QuestionFile 7 (omega arith); not-names = refl; not-end = refl; few = omega arith; made = λ rest. refl }
+field (Single x a) = record { listed = rule QuestionFile 8 (omega arith); not-names = refl; not-end = refl; few = omega arith; made = λ rest. refl }
+field (Union x y z) = record { listed = rule QuestionFile 9 (omega arith); not-names = refl; not-end = refl; few = omega arith; made = λ rest. refl }
+field (Intersection x y z) = record { listed = rule QuestionFile 10 (omega arith); not-names = refl; not-end = refl; few = omega arith; made = λ rest. refl }
+field (Difference x y z) = record { listed = rule QuestionFile 11 (omega arith); not-names = refl; not-end = refl; few = omega arith; made = λ rest. refl }
 
 -- a tag with a body of n bytes, of which the first are a, b, c, makes a statement with that tag and body
 pub record Makes (tag n a b c : ℕ) : Type 0 where

@@ -4,7 +4,7 @@ use mathlib.Core.Path.{_≡_, refl}
 use mathlib.Core.List.{List, [], _∷_, _++_}
 use lib.ListN.{length, replicate}
 use Rattle.question.specs.declared.statements.Statement.{Statement}
-use Rattle.question.specs.declared.statements.Statement.the-variants.{ElementsEqual, In, SetsDiffer, Single, Union}
+use Rattle.question.specs.declared.statements.Statement.the-variants.{In, SetsDiffer, Single, Union}
 use Rattle.question.specs.Refusals.{refusal, dataEnds, tagUnknown, tagOutOfPlace, tooManyNames, tooManyStatements, tooManyTerms, bytesAfterEnd}
 use Rattle.question.specs.Questions.{statements, witness, witnesses, termsOf}
 use Rattle.question.specs.Admissions.{admission}

@@ -1,6 +1,6 @@
 -- A frame is sound exactly if its head is there, its tag is known and in place, and its body has the length of the tag and is there.
 use Prim.Native.Nat.{ℕ, _+_, _-_, _≤_}
-use mathlib.Core.Path.{_≡_, refl, sym, ap, subst, _∙_}
+use mathlib.Core.Path.{_≡_, refl, subst, _∙_}
 use mathlib.Core.Bool.{Bool, true, false, not, cond}
 use mathlib.Core.List.{List, [], _∷_}
 use native.Mathlib.Omega.{arith}
@@ -14,15 +14,16 @@ use Rattle.field.specs.declared.heads.Head.{Head}
 use Rattle.field.specs.declared.heads.Head.the-variants.{Short, Whole}
 use Rattle.field.specs.Tags.{lengthOf, isKnown, isAllowed}
 use Rattle.field.specs.Heads.{headOf}
+use Rattle.field.proofs.Never.{never}
 use Rattle.question_file.specs.declared.frames.Frame.the-variants.{Sound, Refused}
 use Rattle.question_file.specs.Frames.{inPlace, framed, headFramed, frameOf}
 
 -- a head has three bytes
 pub head-there : (rest : List ℕ) (tag n : ℕ) → headOf rest ≡ Whole tag n → 3 ≤ length rest
 unfolding headOf
-head-there [] tag n e = let z : _≡_ {A = ℕ} 0 1 = cc in absurd (omega arith)
-head-there (a ∷ []) tag n e = let z : _≡_ {A = ℕ} 0 1 = cc in absurd (omega arith)
-head-there (a ∷ b ∷ []) tag n e = let z : _≡_ {A = ℕ} 0 1 = cc in absurd (omega arith)
+head-there [] tag n e = never cc
+head-there (a ∷ []) tag n e = never cc
+head-there (a ∷ b ∷ []) tag n e = never cc
 head-there (a ∷ b ∷ c ∷ rest) tag n e = omega arith
 
 -- the byte i of a body
@@ -44,10 +45,10 @@ module _ (at : ℕ) (rest : List ℕ) (tag n : ℕ) where
     where
       go : (a b c d : Bool) → not (isKnown (lengthOf QuestionFile t)) ≡ a → not (inPlace at t) ≡ b → not (isAllowed (lengthOf QuestionFile t) m) ≡ c → ltb (length rest - 3) m ≡ d →
           cond a (Refused tagUnknown) (cond b (Refused tagOutOfPlace) (cond c (Refused wrongLength) (cond d (Refused dataEnds) (Sound t m)))) ≡ Sound tag n → IsSound at rest tag n
-      go true b c d x y z w e = let z : _≡_ {A = ℕ} 0 1 = cc in absurd (omega arith)
-      go false true c d x y z w e = let z : _≡_ {A = ℕ} 0 1 = cc in absurd (omega arith)
-      go false false true d x y z w e = let z : _≡_ {A = ℕ} 0 1 = cc in absurd (omega arith)
-      go false false false true x y z w e = let z : _≡_ {A = ℕ} 0 1 = cc in absurd (omega arith)
+      go true b c d x y z w e = never cc
+      go false true c d x y z w e = never cc
+      go false false true d x y z w e = never cc
+      go false false false true x y z w e = never cc
       go false false false false x y z w e =
           let k : t ≡ tag = cc in
           let l : m ≡ n = cc in
@@ -59,7 +60,7 @@ module _ (at : ℕ) (rest : List ℕ) (tag n : ℕ) where
   sound e = go (headOf rest) refl e
     where
       go : (h : Head) → headOf rest ≡ h → headFramed at (length rest - 3) h ≡ Sound tag n → IsSound at rest tag n
-      go Short p e = let z : _≡_ {A = ℕ} 0 1 = cc in absurd (omega arith)
+      go Short p e = never cc
       go (Whole t m) p e = of-head t m p e
 
   pub frame-of : IsSound at rest tag n → frameOf at rest ≡ Sound tag n

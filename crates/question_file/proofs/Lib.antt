@@ -1,15 +1,20 @@
--- Laws that belong to no one function.
+-- Laws that belong to no one function, in the order in which they rest on each other.
+-- The tables, and one field:
 pub mod BodyLaws
 pub mod FrameLaws
 pub mod StepLaws
 pub mod WrittenFieldLaws
 pub mod TakenFieldLaws
-pub mod ReadLaws
-pub mod WriteLaws
+-- The reader and the writer:
 pub mod AsReadLaws
+pub mod ReadLaws
+pub mod StatementBytesLaws
+pub mod WriterLaws
+-- Both round trips:
 pub mod ReadBackLaws
 pub mod AcceptedFileLaws
-pub mod WrittenLaws
 pub mod RoundTrips
+pub mod FirstBytes
+-- What the contracts leave, and the edges that document 01 names:
 pub mod OneOutcomeLaws
 pub mod Edges

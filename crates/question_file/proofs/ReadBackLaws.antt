@@ -1,28 +1,25 @@
 -- The reader at the file of an accepted question: field by field it makes the question again.
 use Prim.Native.Nat.{ℕ, suc, _+_, _-_, _≤_, _<_}
 use mathlib.Core.Path.{_≡_, refl, sym, ap, _∙_}
-use mathlib.Core.Bool.{true, false}
 use mathlib.Core.List.{List, [], _∷_, _++_, append-nil, append-assoc}
 use native.Mathlib.Omega.{arith}
-use borrow.Author.Tests.{le-ltb, lt-leb}
+use borrow.Author.Tests.{le-ltb}
 use lib.ListN.{length, drop, length-append, length-drop}
 use Rattle.question.specs.declared.statements.Statement.{Statement}
-use Rattle.question.specs.declared.questions.Question.{Question}
-use Rattle.question.specs.declared.refusals.Refusal.{Refusal}
 use Rattle.question.specs.declared.admissions.Admission.{Admission}
 use Rattle.question.specs.declared.admissions.Admission.the-variants.{Admitted, Undeclared, TooManyTerms}
-use Rattle.question.specs.declared.checks.TableCheck.{TableCheck}
-use Rattle.question.specs.declared.checks.TableCheck.the-variants.{Accepted as AcceptedTable, Refused as RefusedTable}
-use Rattle.question.specs.Limits.{maxElements, maxSets, maxStatements, maxTerms}
-use Rattle.question.specs.Questions.{witness, witnesses, termsOf}
+use Rattle.question.specs.declared.checks.TableCheck.the-variants.{Accepted as AcceptedTable}
+use Rattle.question.specs.Limits.{maxStatements}
+use Rattle.question.specs.Questions.{witness, witnesses}
 use Rattle.question.specs.Admissions.{admission}
 use Rattle.question.specs.Checks.{admittedThen, statementsChecked}
-use Rattle.question_file.specs.declared.steps.Next.the-variants.{More, End}
+use Rattle.field.proofs.Never.{never}
+use Rattle.question_file.specs.declared.steps.Next.the-variants.{End}
 use Rattle.question_file.specs.declared.reads.FileCheck.the-variants.{Accepted}
 use Rattle.question_file.specs.declared.reads.ReadQuestion.{ReadQuestion}
 use Rattle.question_file.specs.Bodies.{bodyOf}
-use Rattle.question_file.specs.Bytes.{namesBytes, statementBytes, statementsBytes, endBytes, fileBytes, questionBytes}
-use Rattle.question_file.specs.Steps.{more, declaring, added, namesStep, statementStep, fieldStep}
+use Rattle.question_file.specs.Bytes.{namesBytes, statementBytes, statementsBytes, endBytes, fileBytes}
+use Rattle.question_file.specs.Steps.{more, declaring, fieldStep}
 use Rattle.question_file.specs.Reads.{endedFile, readFields, maxFields, readQuestion, asRead}
 use Rattle.question_file.proofs.StepLaws.{names-more, room}
 use Rattle.question_file.proofs.WrittenFieldLaws.{names-step, statement-step, end-step}
@@ -36,8 +33,8 @@ admitted-first E S i t s ss e = go (admission E S t s) refl e
   where
     go : (a : Admission) → admission E S t s ≡ a → admittedThen i a (statementsChecked E S (suc i) (t + witness s) ss) ≡ AcceptedTable → (admission E S t s ≡ Admitted) × (statementsChecked E S (suc i) (t + witness s) ss ≡ AcceptedTable)
     go Admitted p e = (p, e)
-    go (Undeclared at) p e = let z : _≡_ {A = ℕ} 0 1 = cc in absurd (omega arith)
-    go TooManyTerms p e = let z : _≡_ {A = ℕ} 0 1 = cc in absurd (omega arith)
+    go (Undeclared at) p e = never cc
+    go TooManyTerms p e = never cc
 
 pub witnesses-snoc : (ss : List Statement) (s : Statement) → witnesses (ss ++ (s ∷ [])) ≡ witnesses ss + witness s
 unfolding witnesses

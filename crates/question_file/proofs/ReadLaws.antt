@@ -1,7 +1,7 @@
 -- The walk over the fields: each field that goes on uses up one of the 66 and lies further in the data, so the walk ends, and no more fields are ever needed.
 use Prim.Native.Nat.{ℕ, zero, suc, _+_, _-_, _≤_, _<_}
 use mathlib.Core.Path.{_≡_, refl, sym, ap, _∙_}
-use mathlib.Core.List.{List, [], _++_}
+use mathlib.Core.List.{List, _++_}
 use native.Mathlib.Omega.{arith}
 use borrow.Author.Tests.{lt-ltb, le-ltb}
 use lib.ListN.{length, drop, length-append, length-drop}
@@ -14,9 +14,9 @@ use Rattle.question_file.specs.declared.steps.Next.{Next}
 use Rattle.question_file.specs.declared.steps.Next.the-variants.{More, End, Refused}
 use Rattle.question_file.specs.declared.steps.Step.{Step}
 use Rattle.question_file.specs.declared.reads.FileCheck.the-variants.{Accepted}
-use Rattle.question_file.specs.Bytes.{namesBytes, statementBytes}
+use Rattle.question_file.specs.Bytes.{statementBytes}
 use Rattle.question_file.specs.Steps.{declaring, fieldStep}
-use Rattle.question_file.specs.Reads.{refusedFile, endedFile, follow, readFields, maxFields, readQuestion}
+use Rattle.question_file.specs.Reads.{refusedFile, endedFile, readFields, maxFields, readQuestion}
 use Rattle.question_file.proofs.TakenFieldLaws.{Went, by-names, by-statement, went}
 
 -- what stands behind a field

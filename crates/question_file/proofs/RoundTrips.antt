@@ -21,10 +21,10 @@ use Rattle.question_file.specs.declared.writes.Written.the-variants.{Byt
 use Rattle.question_file.specs.Bytes.{fileBytes, questionBytes}
 use Rattle.question_file.specs.Reads.{readQuestion, asRead}
 use Rattle.question_file.specs.Writes.{written, writtenOver}
-use Rattle.question_file.proofs.AsReadLaws.{as-read-statements, checked-sound, sound-checked}
+use Rattle.question_file.proofs.AsReadLaws.{as-read-statements, as-read-again, checked-sound, sound-checked}
 use Rattle.question_file.proofs.ReadBackLaws.{file-read-back}
 use Rattle.question_file.proofs.AcceptedFileLaws.{accepted-file}
-use Rattle.question_file.proofs.WrittenLaws.{Writable, writable-written, written-writable, written-over}
+use Rattle.question_file.proofs.WriterLaws.{Writable, writable-written, written-writable, written-over}
 use Rattle.question_file.proofs.reads.read_question.Reads as read
 use Rattle.question_file.proofs.writes.write_question.Reads as write
 
@@ -43,6 +43,7 @@ pub record Same (q r : Question) : Type 0 where
   pub count : r .count ≡ q .count
   pub stated : statements r ≡ statements q
 
+-- (a table has 64 entries)
 pub same-back : (q : Question) → checked q ≡ AcceptedTable → length (q .table) ≡ maxStatements → Same q (readQuestion (questionBytes q) .question)
 same-back q e long =
     rw (read-back q e) (record {
@@ -56,6 +57,13 @@ same-back q e long =
 module _ (bytes : List ℕ) (e : readQuestion bytes .outcome ≡ Accepted) where
   pub read-checked : checked (readQuestion bytes .question) ≡ AcceptedTable
   read-checked = let f = accepted-file bytes e in ap checked (f .made) ∙ sound-checked (f .E) (f .S) (f .ss) (f .sound)
+
+  -- its unused entries are "0 = 0",
+  pub read-made : readQuestion bytes ≡ back (readQuestion bytes .question)
+  read-made =
+      let f = accepted-file bytes e in
+      ap (λ o. record { outcome = o; question = readQuestion bytes .question }) e
+      ∙ ap (λ q. record { outcome = Accepted; question = q }) (as-read-again (f .E) (f .S) (f .ss) (f .sound .few-statements) (readQuestion bytes .question) (f .made))
 
   -- and written again it has the same bytes
   pub written-again : questionBytes (readQuestion bytes .question) ≡ bytes

@@ -1,6 +1,6 @@
 -- What one field comes to: a law for each way out.
 use Prim.Native.Nat.{ℕ, _+_, _≤_, _<_}
-use mathlib.Core.Path.{_≡_, refl, sym, ap, _∙_}
+use mathlib.Core.Path.{_≡_, sym, ap, _∙_}
 use mathlib.Core.Bool.{false}
 use mathlib.Core.List.{List}
 use borrow.Author.Tests.{le-ltb, le-leb, lt-leb}
@@ -10,11 +10,10 @@ use Rattle.question.specs.declared.statements.Statement.{Statement}
 use Rattle.question.specs.declared.questions.Question.{Question}
 use Rattle.question.specs.declared.admissions.Admission.{Admission}
 use Rattle.question.specs.Limits.{maxElements, maxSets, maxStatements}
-use Rattle.question.specs.Refusals.{tagUnknown, tooManyStatements}
+use Rattle.question.specs.Refusals.{tooManyStatements}
 use Rattle.question.specs.Questions.{termsOf}
 use Rattle.question.specs.Admissions.{admission}
 use Rattle.question_file.specs.declared.bodies.Made.{Made}
-use Rattle.question_file.specs.declared.bodies.Made.the-variants.{Stated, NotStated}
 use Rattle.question_file.specs.declared.frames.Frame.the-variants.{Sound, Refused as BadFrame}
 use Rattle.question_file.specs.declared.steps.Next.the-variants.{End}
 use Rattle.question_file.specs.declared.steps.Step.{Step}

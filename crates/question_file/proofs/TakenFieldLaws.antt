@@ -18,10 +18,10 @@ use Rattle.question.specs.Statements.{tagOf}
 use Rattle.question.specs.Questions.{termsOf}
 use Rattle.question.specs.Admissions.{admission}
 use Rattle.field.specs.declared.tags.File.the-variants.{Question as QuestionFile}
-use Rattle.field.specs.declared.tags.BodyLength.{BodyLength}
 use Rattle.field.specs.declared.tags.BodyLength.the-variants.{Fixed}
 use Rattle.field.specs.Tags.{lengthOf, isAllowed}
 use Rattle.field.specs.Heads.{fieldBytes}
+use Rattle.field.proofs.Never.{never}
 use Rattle.field.proofs.HeadLaws.{head-read}
 use Rattle.question_file.specs.declared.bodies.Made.the-variants.{Stated}
 use Rattle.question_file.specs.declared.frames.Frame.{Frame}
@@ -30,7 +30,7 @@ use Rattle.question_file.specs.declared.steps.Next.the-variants.{More, E
 use Rattle.question_file.specs.declared.steps.Step.{Step}
 use Rattle.question_file.specs.Bodies.{bodyOf}
 use Rattle.question_file.specs.Bytes.{namesBytes, statementBytes, endBytes}
-use Rattle.question_file.specs.Frames.{inPlace, frameOf}
+use Rattle.question_file.specs.Frames.{frameOf}
 use Rattle.question_file.specs.Steps.{refusedAt, more, declaring, added, namesStep, admittedStep, statementStep, taken, framedStep, fieldStep}
 use Rattle.question_file.proofs.BodyLaws.{Makes, Known, names, end, stated, known}
 use Rattle.question_file.proofs.FrameLaws.{IsSound, sound}
@@ -67,8 +67,8 @@ names-went E S at next place e = go (ltb maxElements E) (ltb maxSets S) refl ref
   where
     go : (a b : Bool) → ltb maxElements E ≡ a → ltb maxSets S ≡ b → cond (a || b) (refusedAt tooManyNames at) (more next (declaring E S)) .next ≡ More place →
         (E ≤ maxElements) × (S ≤ maxSets) × (place ≡ next) × (cond (a || b) (refusedAt tooManyNames at) (more next (declaring E S)) .question ≡ declaring E S)
-    go true b p r e = let z : _≡_ {A = ℕ} 0 1 = cc in absurd (omega arith)
-    go false true p r e = let z : _≡_ {A = ℕ} 0 1 = cc in absurd (omega arith)
+    go true b p r e = never cc
+    go false true p r e = never cc
     go false false p r e = (ltb-false maxElements E p, ltb-false maxSets S r, (cc), refl)
 
 -- a statement's field goes on where the statement is admitted
@@ -82,9 +82,9 @@ module _ (s : Statement) (at next place : ℕ) (q : Question) where
     where
       go : (full : Bool) (a : Admission) → leb maxStatements (q .count) ≡ full → admission (q .elements) (q .sets) (termsOf q) s ≡ a →
           cond full (refusedAt tooManyStatements at) (admittedStep at a (more next (added q s))) .next ≡ More place → Goes (cond full (refusedAt tooManyStatements at) (admittedStep at a (more next (added q s))))
-      go true a p r e = let z : _≡_ {A = ℕ} 0 1 = cc in absurd (omega arith)
-      go false (Undeclared i) p r e = let z : _≡_ {A = ℕ} 0 1 = cc in absurd (omega arith)
-      go false TooManyTerms p r e = let z : _≡_ {A = ℕ} 0 1 = cc in absurd (omega arith)
+      go true a p r e = never cc
+      go false (Undeclared i) p r e = never cc
+      go false TooManyTerms p r e = never cc
       go false Admitted p r e = (leb-false maxStatements (q .count) p, r, (cc), refl)
 
 -- neither ends the file
@@ -96,10 +96,10 @@ no-end-either true x y f g = f
 no-end-either false x y f g = g
 
 no-end-refused : (number at : ℕ) → NoEnd (refusedAt number at)
-no-end-refused number at place e = let z : _≡_ {A = ℕ} 0 1 = cc in omega arith
+no-end-refused number at place e = never cc
 
 no-end-more : (next : ℕ) (q : Question) → NoEnd (more next q)
-no-end-more next q place e = let z : _≡_ {A = ℕ} 0 1 = cc in omega arith
+no-end-more next q place e = never cc
 
 names-no-end : (E S at next : ℕ) → NoEnd (namesStep E S at next)
 unfolding namesStep
@@ -116,10 +116,10 @@ statement-no-end s at next q = no-end-either (leb maxStatements (q .count)) _ _ 
 
 first : (b : Bool) → Bool·beq true b ≡ true → b ≡ true
 first true e = refl
-first false e = let z : _≡_ {A = ℕ} 0 1 = cc in absurd (omega arith)
+first false e = never cc
 
 not-first : (b : Bool) → Bool·beq false b ≡ true → b ≡ false
-not-first true e = let z : _≡_ {A = ℕ} 0 1 = cc in absurd (omega arith)
+not-first true e = never cc
 not-first false e = refl
 
 -- a field with a sound frame, by what its tag can be
@@ -164,7 +164,7 @@ module _ (rest : List ℕ) (at : ℕ) (q : Question) (tag n : ℕ) (f : IsSound 
 
   went-sound : (place : ℕ) → Known tag (lengthOf QuestionFile tag) → step .next ≡ More place → Went rest at q place (step .question)
   went-sound place (names t l) e = went-names place t (due 2 l) e
-  went-sound place (end t l) e = let s = sym (ap (λ x. x .next) (taken-end tag body at (at + (3 + n)) q t)) ∙ e in let z : _≡_ {A = ℕ} 0 1 = cc in absurd (omega arith)
+  went-sound place (end t l) e = let s = sym (ap (λ x. x .next) (taken-end tag body at (at + (3 + n)) q t)) ∙ e in never cc
   went-sound place (stated m l few a b makes) e = went-statement place m (due m l) few a b makes e
 
   ended-sound : (place : ℕ) → Known tag (lengthOf QuestionFile tag) → step .next ≡ End place → Ended rest at q place (step .question)
@@ -187,7 +187,7 @@ module _ (rest : List ℕ) (at : ℕ) (q : Question) (place : ℕ) where
   went e = go (frameOf at rest) refl e
     where
       go : (f : Frame) → frameOf at rest ≡ f → framedStep f rest at q .next ≡ More place → Went rest at q place (framedStep f rest at q .question)
-      go (BadFrame number) p e = let z : _≡_ {A = ℕ} 0 1 = cc in absurd (omega arith)
+      go (BadFrame number) p e = never cc
       go (Sound tag n) p e = let f = sound at rest tag n p in went-sound rest at q tag n f place (known tag (f .known)) e
 
   -- a field that ends the file is 7F, and leaves the question as it was
@@ -196,5 +196,5 @@ module _ (rest : List ℕ) (at : ℕ) (q : Question) (place : ℕ) where
   ended e = go (frameOf at rest) refl e
     where
       go : (f : Frame) → frameOf at rest ≡ f → framedStep f rest at q .next ≡ End place → Ended rest at q place (framedStep f rest at q .question)
-      go (BadFrame number) p e = let z : _≡_ {A = ℕ} 0 1 = cc in absurd (omega arith)
+      go (BadFrame number) p e = never cc
       go (Sound tag n) p e = let f = sound at rest tag n p in ended-sound rest at q tag n f place (known tag (f .known)) e

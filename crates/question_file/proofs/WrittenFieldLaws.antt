@@ -12,8 +12,9 @@ use Rattle.question.specs.declared.questions.Question.{Question}
 use Rattle.question.specs.Statements.{tagOf}
 use Rattle.field.specs.declared.tags.File.the-variants.{Question as QuestionFile}
 use Rattle.field.specs.declared.tags.BodyLength.the-variants.{Fixed}
-use Rattle.field.specs.Tags.{lengthIn, lengthOf, isKnown, isAllowed}
+use Rattle.field.specs.Tags.{lengthOf, isKnown, isAllowed}
 use Rattle.field.specs.Heads.{fieldBytes}
+use Rattle.field.proofs.TagLaws.{rule}
 use Rattle.field.proofs.HeadLaws.{head-written}
 use Rattle.question_file.specs.declared.steps.Next.the-variants.{End}
 use Rattle.question_file.specs.Bodies.{bodyOf}
@@ -43,8 +44,8 @@ later : (at : ℕ) → (at ≡ 0 → ⊥) → (tag : ℕ) → eqb tag 0x01 ≡ f
 later at h tag e = rw (e, ne-eqb at 0 h)
 
 pub names-step : (E S : ℕ) (rest : List ℕ) (q : Question) → fieldStep (namesBytes E S ++ rest) 0 q ≡ namesStep E S 0 5
-unfolding lengthIn taken
-names-step E S rest q = written-taken 0x01 (E ∷ S ∷ []) rest 0 q refl refl
+unfolding taken
+names-step E S rest q = written-taken 0x01 (E ∷ S ∷ []) rest 0 q (rule QuestionFile 0 (omega arith)) refl
 
 pub statement-step : (s : Statement) (rest : List ℕ) (at : ℕ) (q : Question) → (at ≡ 0 → ⊥) → fieldStep (statementBytes s ++ rest) at q ≡ statementStep s at (at + (3 + length (bodyOf s))) q
 unfolding taken
@@ -53,5 +54,5 @@ statement-step s rest at q h =
     written-taken (tagOf s) (bodyOf s) rest at q (f .listed) (later at h (tagOf s) (f .not-names)) ∙ rw (f .not-names, f .not-end, f .made rest)
 
 pub end-step : (rest : List ℕ) (at : ℕ) (q : Question) → (at ≡ 0 → ⊥) → fieldStep (endBytes ++ rest) at q ≡ record { next = End (at + 3); question = q }
-unfolding lengthIn taken
-end-step rest at q h = written-taken 0x7f [] rest at q refl (later at h 0x7f refl)
+unfolding taken
+end-step rest at q h = written-taken 0x7f [] rest at q (rule QuestionFile 16 (omega arith)) (later at h 0x7f refl)

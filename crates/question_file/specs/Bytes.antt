@@ -25,9 +25,10 @@ statementsBytes (s ∷ ss) = statementBytes s ++ statementsBytes ss
 abbrev pub endBytes : List ℕ
 endBytes = fieldBytes 0x7f []
 
--- a whole file
+-- the file of E, S and some statements
 unfoldable pub fileBytes : ℕ → ℕ → List Statement → List ℕ
 fileBytes E S ss = namesBytes E S ++ (statementsBytes ss ++ endBytes)
 
+-- the file of a question
 abbrev pub questionBytes : Question → List ℕ
 questionBytes q = fileBytes (q .elements) (q .sets) (statements q)

@@ -17,7 +17,7 @@ use Rattle.question_file.specs.declared.frames.Frame.the-variants.{Sound
 abbrev pub inPlace : ℕ → ℕ → Bool
 inPlace at tag = Bool·beq (eqb tag 0x01) (eqb at 0)
 
--- a head at the place `at` with a tag and a length, where so many bytes are left behind it
+-- after a head at the place `at`, with a tag and a length, where so many bytes are left: 2, 3, 4, 1
 unfoldable pub framed : ℕ → ℕ → ℕ → ℕ → Frame
 framed at tag n left =
     cond (not (isKnown (lengthOf QuestionFile tag))) (Refused tagUnknown)
@@ -26,10 +26,11 @@ framed at tag n left =
     (cond (ltb left n) (Refused dataEnds)
     (Sound tag n))))
 
--- the frame at the place `at`, where `rest` are the bytes from there on
+-- first the head: fewer than three bytes are 1
 abbrev pub headFramed : ℕ → ℕ → Head → Frame
 headFramed at left Short = Refused dataEnds
 headFramed at left (Whole tag n) = framed at tag n left
 
+-- the frame of the field at the place `at`, where `rest` are the bytes from there on
 abbrev pub frameOf : ℕ → List ℕ → Frame
 frameOf at rest = headFramed at (length rest - 3) (headOf rest)

@@ -12,8 +12,6 @@ use Rattle.question.specs.Refusals.{refusal, tooManyStatements, bytesAfterEnd}
 use Rattle.question.specs.Questions.{idle}
 use Rattle.question_file.specs.declared.steps.Next.{Next}
 use Rattle.question_file.specs.declared.steps.Next.the-variants.{More, End, Refused as RefusedField}
-use Rattle.question_file.specs.declared.steps.Step.{Step}
-use Rattle.question_file.specs.declared.reads.FileCheck.{FileCheck}
 use Rattle.question_file.specs.declared.reads.FileCheck.the-variants.{Accepted, Refused}
 use Rattle.question_file.specs.declared.reads.ReadQuestion.{ReadQuestion}
 use Rattle.question_file.specs.Steps.{declaring, fieldStep}
@@ -26,24 +24,24 @@ refusedFile r = record { outcome = Refused r; question = declaring 0 0 }
 abbrev pub endedFile : ℕ → ℕ → Question → ReadQuestion
 endedFile size place q = cond (ltb place size) (refusedFile (refusal bytesAfterEnd place)) (record { outcome = Accepted; question = q })
 
--- what follows a field
+-- what follows a field: the next one, the end, or its refusal
 abbrev pub follow : ℕ → (ℕ → Question → ReadQuestion) → Next → Question → ReadQuestion
 follow size rest (More place) q = rest place q
 follow size rest (End place) q = endedFile size place q
 follow size rest (RefusedField r) q = refusedFile r
 
--- at most so many fields from a place on, after the fields before it made a question
+-- at most so many fields from a place on, after the fields before it made a question; with 66 to read the last clause is never met
 unfoldable pub readFields : ℕ → List ℕ → ℕ → Question → ReadQuestion
-readFields zero bytes at q = refusedFile (refusal tooManyStatements at)
 readFields (suc fields) bytes at q =
     let step = fieldStep (drop at bytes) at q in
     follow (length bytes) (readFields fields bytes) (step .next) (step .question)
+readFields zero bytes at q = refusedFile (refusal tooManyStatements at)
 
 -- 01, the statements, and one field more: 7F, or the statement that is one too many
 abbrev pub maxFields : ℕ
 maxFields = 1 + maxStatements + 1
 
--- the question of a file
+-- the question of a file, read from its first byte on
 abbrev pub readQuestion : List ℕ → ReadQuestion
 readQuestion bytes = readFields maxFields bytes 0 (declaring 0 0)
 

@@ -1,6 +1,6 @@
 -- One field of a question file, after the fields before it made a question.
 use Prim.Native.Nat.{ℕ, _+_}
-use mathlib.Core.Bool.{Bool, _||_, cond}
+use mathlib.Core.Bool.{_||_, cond}
 use mathlib.Core.List.{List}
 use lib.Dec.{eqb, ltb, leb}
 use lib.ListN.{getD, drop, set, replicate}
@@ -17,7 +17,6 @@ use Rattle.question_file.specs.declared.bodies.Made.{Made}
 use Rattle.question_file.specs.declared.bodies.Made.the-variants.{Stated, NotStated}
 use Rattle.question_file.specs.declared.frames.Frame.{Frame}
 use Rattle.question_file.specs.declared.frames.Frame.the-variants.{Sound, Refused as BadFrame}
-use Rattle.question_file.specs.declared.steps.Next.{Next}
 use Rattle.question_file.specs.declared.steps.Next.the-variants.{More, End, Refused}
 use Rattle.question_file.specs.declared.steps.Step.{Step}
 use Rattle.question_file.specs.Bodies.{statementOf}
@@ -59,6 +58,7 @@ statementStep s at next q =
     cond (leb maxStatements (q .count)) (refusedAt tooManyStatements at)
     (admittedStep at (admission (q .elements) (q .sets) (termsOf q) s) (more next (added q s)))
 
+-- a tag that is no statement's is unknown
 abbrev pub madeStep : Made → ℕ → ℕ → Question → Step
 madeStep (Stated s) at next q = statementStep s at next q
 madeStep NotStated at next q = refusedAt tagUnknown at
@@ -70,10 +70,11 @@ taken tag body at next q =
     (cond (eqb tag 0x7f) (record { next = End next; question = q })
     (madeStep (statementOf tag (getD body 0 0) (getD body 1 0) (getD body 2 0)) at next q))
 
--- one field at the place `at`, where `rest` are the bytes from there on
+-- first the refusals of the frame
 abbrev pub framedStep : Frame → List ℕ → ℕ → Question → Step
 framedStep (BadFrame number) rest at q = refusedAt number at
 framedStep (Sound tag n) rest at q = taken tag (drop 3 rest) at (at + (3 + n)) q
 
+-- one field at the place `at`, where `rest` are the bytes from there on and q is the question so far
 unfoldable pub fieldStep : List ℕ → ℕ → Question → Step
 fieldStep rest at q = framedStep (frameOf at rest) rest at q

@@ -14,23 +14,25 @@ use Rattle.question_file.specs.declared.writes.Written.{Written}
 use Rattle.question_file.specs.declared.writes.Written.the-variants.{Bytes, Refused}
 use Rattle.question_file.specs.Bytes.{questionBytes}
 
--- some bytes where there is room for so many: 10 if they are more
+-- the answer to some bytes where there is room for so many: 10 if they are more
 abbrev pub fitted : List ℕ → ℕ → Written
 fitted bytes room = cond (ltb room (length bytes)) (Refused (refusal bufferTooShort 0)) (Bytes (length bytes))
 
+-- and the buffer: the bytes over what was there, or what was there
 abbrev pub fittedOver : List ℕ → List ℕ → List ℕ
 fittedOver bytes old = cond (ltb (length old) (length bytes)) old (over bytes old)
 
--- first the refusals of the table
+-- before it the refusals of the table
 abbrev pub checkedThen : TableCheck → Written → Written
 checkedThen Accepted answer = answer
 checkedThen (RefusedTable r) answer = Refused r
 
+-- which leave the buffer as it was
 abbrev pub checkedOver : TableCheck → List ℕ → List ℕ → List ℕ
 checkedOver Accepted new old = new
 checkedOver (RefusedTable r) new old = old
 
--- the answer to a question that is to be written where there is room for so many bytes
+-- the answer of the writer to a question, where the buffer has so many bytes
 unfoldable pub written : Question → ℕ → Written
 written q room = checkedThen (checked q) (fitted (questionBytes q) room)
 

@@ -15,7 +15,6 @@ ghost use Rattle.question.specs.Limits.{maxStatements};
 ghost use Rattle.question.specs.Questions.{statements};
 ghost use Rattle.question.specs.Checks.{checked};
 ghost use Rattle.outcome.specs.Over.{over};
-ghost use Rattle.question_file.specs.Bodies.{bodyOf};
 ghost use Rattle.question_file.specs.Bytes.{statementBytes, statementsBytes, questionBytes};
 ghost use Rattle.question_file.specs.Writes.{fitted, fittedOver, written, writtenOver};
 

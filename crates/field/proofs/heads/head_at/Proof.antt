@@ -22,7 +22,9 @@ cast-low : tie.Need-cast-low
 cast-low c = omega (arith, c .shared-slice-known2 .given (c .before .before .before .before .args .at + 2))
 
 mul-t5 : tie.Need-mul-t5
-mul-t5 c = omega (arith, c .shared-slice-known3 .given (c .before .before .before .before .before .args .at + 1))
+mul-t5 c =
+    let at = c .before .before .before .before .before .args .at in
+    omega (arith, c .shared-slice-known3 .given (at + 1), c .shared-slice-known3 .given (at + 2))
 
 add-t7 : tie.Need-add-t7
 add-t7 c =

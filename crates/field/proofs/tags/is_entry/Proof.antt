@@ -1,5 +1,4 @@
 -- `is_entry` compares the tags, then asks whether the file knows the entry: each return rewrites with the test that led there.
-use mathlib.Core.Path.{sym, _∙_}
 use borrow.Author.Needs.{needs}
 use borrow.Author.Tests.{eq-eqb, ne-eqb}
 use Rattle.field.proofs.tags.is_entry.Statement.{statement}

@@ -1,13 +1,12 @@
 -- `body_length` looks the tag up: the table's rule says that it finds the number of the statement's names.
 use Prim.Native.Nat.{ℕ}
-use mathlib.Core.Path.{_≡_, refl, sym, ap, _∙_}
-use native.Mathlib.Omega.{arith}
+use mathlib.Core.Path.{_≡_, sym, ap, _∙_}
 use borrow.Author.Needs.{needs}
 use lib.ListN.{length}
 use Rattle.field.specs.declared.tags.File.the-variants.{Question as QuestionFile}
-use Rattle.field.specs.declared.tags.BodyLength.{BodyLength}
 use Rattle.field.specs.declared.tags.BodyLength.the-variants.{Unknown, Fixed, Depends}
 use Rattle.field.specs.Tags.{lengthOf}
+use Rattle.field.proofs.Never.{never}
 use Rattle.question_file.specs.Bodies.{bodyOf}
 use Rattle.question_file.proofs.BodyLaws.{field}
 use Rattle.question_file.proofs.bodies.body_length.Statement.{statement}
@@ -17,10 +16,10 @@ listed : (c : tie.After-length-of) → c .length-of .result ≡ Fixed (length (b
 listed c = c .length-of .ensures ∙ ap (lengthOf QuestionFile) (c .before .tag .ensures) ∙ field (c .before .before .args .s) .listed
 
 unknown-fixed : {A : Type 0} {n : ℕ} → Unknown ≡ Fixed n → A
-unknown-fixed e = let z : _≡_ {A = ℕ} 0 1 = cc in absurd (omega arith)
+unknown-fixed e = never cc
 
 depends-fixed : {A : Type 0} {n : ℕ} → Depends ≡ Fixed n → A
-depends-fixed e = let z : _≡_ {A = ℕ} 0 1 = cc in absurd (omega arith)
+depends-fixed e = never cc
 
 fixed-same : {m n : ℕ} → Fixed m ≡ Fixed n → m ≡ n
 fixed-same e = cc

@@ -1,13 +1,10 @@
 -- `check_head` refuses in document 01's order: at each return the tests that led there are put into the definition.
-use Prim.Native.Nat.{ℕ}
-use mathlib.Core.Path.{_≡_, refl, sym, ap, _∙_}
+use mathlib.Core.Path.{_≡_, sym}
 use mathlib.Core.Bool.{not, cond}
 use borrow.Author.Needs.{needs}
 use borrow.Author.Tests.{lt-ltb, le-ltb}
 use lib.Dec.{ltb}
 use Rattle.question.specs.Refusals.{dataEnds, tagUnknown, tagOutOfPlace, wrongLength}
-use Rattle.field.specs.declared.tags.File.the-variants.{Question as QuestionFile}
-use Rattle.field.specs.Tags.{lengthOf, isKnown, isAllowed}
 use Rattle.question_file.specs.declared.frames.Frame.the-variants.{Sound, Refused}
 use Rattle.question_file.specs.Frames.{inPlace, framed}
 use Rattle.question_file.proofs.frames.check_head.Statement.{statement}

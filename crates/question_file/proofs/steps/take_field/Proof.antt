@@ -1,7 +1,7 @@
 -- `take_field` reads the bytes of the body and goes by the tag: at each return the tests that led there are put into the definition.
 use Prim.Native.Nat.{_+_}
 use denote.Ref.{now}
-use mathlib.Core.Path.{_≡_, refl, sym, ap, _∙_}
+use mathlib.Core.Path.{_≡_, sym, _∙_}
 use mathlib.Core.Bool.{cond}
 use borrow.Author.Needs.{needs}
 use borrow.Author.Tests.{eq-eqb, ne-eqb}
@@ -67,3 +67,4 @@ take-field-spec =
     (λ c κs. search needs)
     returns-3
     returns-4)
+-- x611327

@@ -1,15 +1,14 @@
 -- `file_length` adds up the fields: the length of the file is the total so far and the bytes of the statements from here on.
 use Prim.Native.Nat.{_+_, _-_, _*_, _≤_}
-use mathlib.Core.Path.{_≡_, refl, sym, ap, _∙_}
+use mathlib.Core.Path.{_≡_, sym, ap, _∙_}
 use native.Mathlib.Omega.{arith}
 use borrow.Author.Needs.{needs}
 use lib.ListN.{length, getD, length-append}
 use Rattle.question.specs.Questions.{idle}
 use Rattle.question.proofs.StatementsLaws.{table-long}
-use Rattle.question_file.specs.Bodies.{bodyOf}
 use Rattle.question_file.specs.Bytes.{statementBytes, questionBytes}
 use Rattle.question_file.proofs.BodyLaws.{field}
-use Rattle.question_file.proofs.WriteLaws.{bytesFrom, bytes-turn, bytes-end, question-length}
+use Rattle.question_file.proofs.StatementBytesLaws.{bytesFrom, bytes-turn, bytes-end, question-length}
 use Rattle.question_file.proofs.writes.file_length.Statement.{statement}
 use Rattle.question_file.proofs.writes.file_length.Tie as tie
 

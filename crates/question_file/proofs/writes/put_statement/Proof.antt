@@ -11,7 +11,7 @@ use Rattle.field.specs.Writes.{fieldCount, fieldOver}
 use Rattle.field.proofs.WriteLaws.{written}
 use Rattle.question_file.specs.Bodies.{bodyOf}
 use Rattle.question_file.proofs.BodyLaws.{field}
-use Rattle.question_file.proofs.WriteLaws.{padded-body}
+use Rattle.question_file.proofs.StatementBytesLaws.{padded-body}
 use Rattle.question_file.proofs.writes.put_statement.Statement.{statement}
 use Rattle.question_file.proofs.writes.put_statement.Tie as tie
 

@@ -10,7 +10,7 @@ use Rattle.question.specs.Questions.{idle, statements}
 use Rattle.question.proofs.StatementsLaws.{table-long}
 use Rattle.outcome.proofs.OverLaws.{Run, run-start, run-room, run-on, run-end}
 use Rattle.question_file.specs.Bytes.{statementBytes, statementsBytes}
-use Rattle.question_file.proofs.WriteLaws.{bytesFrom, bytes-turn, bytes-end}
+use Rattle.question_file.proofs.StatementBytesLaws.{bytesFrom, bytes-turn, bytes-end}
 use Rattle.question_file.proofs.writes.put_statements.Statement.{statement}
 use Rattle.question_file.proofs.writes.put_statements.Tie as tie
 

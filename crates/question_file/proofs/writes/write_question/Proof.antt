@@ -1,6 +1,6 @@
 -- `write_question` passes a refusal of the table on, and writes an accepted question.
 use denote.Ref.{now}
-use mathlib.Core.Path.{_≡_, refl, sym, ap, _∙_}
+use mathlib.Core.Path.{sym, ap, _∙_}
 use borrow.Author.Needs.{needs}
 use lib.ListN.{length}
 use Rattle.question_file.specs.Bytes.{questionBytes}

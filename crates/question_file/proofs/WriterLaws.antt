@@ -1,11 +1,11 @@
 -- When the writer writes and when it refuses: it refuses exactly the tables that are not accepted and too short a buffer, and a refusal leaves the buffer as it was.
-use Prim.Native.Nat.{ℕ, _+_, _*_, _≤_, _<_}
-use mathlib.Core.Path.{_≡_, refl, sym, ap, _∙_}
+use Prim.Native.Nat.{ℕ, _*_, _≤_}
+use mathlib.Core.Path.{_≡_, refl, sym, _∙_}
 use mathlib.Core.Bool.{Bool, true, false, cond}
-use mathlib.Core.List.{List, [], _∷_, _++_}
+use mathlib.Core.List.{List, [], _∷_}
 use mathlib.Core.Logic.{_↔_}
 use native.Mathlib.Omega.{arith}
-use borrow.Author.Tests.{ltb-true, ltb-false, lt-ltb, le-ltb}
+use borrow.Author.Tests.{ltb-false, le-ltb}
 use lib.Dec.{ltb}
 use lib.ListN.{length, length-append}
 use Rattle.question.specs.declared.statements.Statement.{Statement}
@@ -13,22 +13,20 @@ use Rattle.question.specs.declared.questions.Question.{Question}
 use Rattle.question.specs.declared.refusals.Refusal.{Refusal}
 use Rattle.question.specs.declared.checks.TableCheck.{TableCheck}
 use Rattle.question.specs.declared.checks.TableCheck.the-variants.{Accepted, Refused as RefusedTable}
-use Rattle.question.specs.Limits.{maxStatements}
 use Rattle.question.specs.Refusals.{refusal, bufferTooShort}
 use Rattle.question.specs.Questions.{statements}
 use Rattle.question.specs.Checks.{checked}
 use Rattle.outcome.specs.Over.{over}
-use Rattle.question_file.specs.declared.writes.Written.{Written}
+use Rattle.field.proofs.Never.{never}
 use Rattle.question_file.specs.declared.writes.Written.the-variants.{Bytes, Refused}
-use Rattle.question_file.specs.Bodies.{bodyOf}
 use Rattle.question_file.specs.Bytes.{statementBytes, statementsBytes, questionBytes}
-use Rattle.question_file.specs.Writes.{fitted, fittedOver, checkedThen, checkedOver, written, writtenOver}
+use Rattle.question_file.specs.Writes.{checkedThen, checkedOver, written, writtenOver}
 use Rattle.question_file.proofs.BodyLaws.{field}
-use Rattle.question_file.proofs.WriteLaws.{question-length}
+use Rattle.question_file.proofs.StatementBytesLaws.{question-length}
 use Rattle.question_file.proofs.AsReadLaws.{checked-sound}
 
 refused-bytes : {A : Type 0} {r : Refusal} {n : ℕ} → Refused r ≡ Bytes n → A
-refused-bytes e = let z : _≡_ {A = ℕ} 0 1 = cc in absurd (omega arith)
+refused-bytes e = never cc
 
 bytes-same : {m n : ℕ} → Bytes m ≡ Bytes n → m ≡ n
 bytes-same e = cc

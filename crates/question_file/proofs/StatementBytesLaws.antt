@@ -1,7 +1,7 @@
 -- A walk over the statements of a question that writes their fields, or counts their bytes: what one turn does, and how the walk ends.
 use Prim.Native.Nat.{ℕ, _+_, _≤_, _<_}
-use mathlib.Core.Path.{_≡_, refl, sym, ap, _∙_}
-use mathlib.Core.List.{List, [], _∷_, _++_}
+use mathlib.Core.Path.{_≡_}
+use mathlib.Core.List.{List, [], _++_}
 use native.Mathlib.Omega.{arith}
 use lib.ListN.{length, getD, take, drop, length-append}
 use lib.Seq.{take-append-seam}
@@ -11,7 +11,7 @@ use Rattle.question.specs.declared.questions.Question.{Question}
 use Rattle.question.specs.Questions.{statements}
 use Rattle.question.proofs.StatementsLaws.{statements-at, statements-end}
 use Rattle.question_file.specs.Bodies.{bodyOf, padded}
-use Rattle.question_file.specs.Bytes.{namesBytes, statementBytes, statementsBytes, endBytes, fileBytes, questionBytes}
+use Rattle.question_file.specs.Bytes.{statementBytes, statementsBytes, fileBytes, questionBytes}
 
 -- the bytes of the statements from the index i on
 abbrev pub bytesFrom : Question → ℕ → List ℕ
