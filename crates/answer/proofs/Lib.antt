@@ -1,0 +1,9 @@
+-- Laws that belong to no one function.
+pub mod PaddedLaws
+pub mod BodyLaws
+pub mod CheckLaws
+pub mod AnswerLaws
+pub mod GoodLaws
+pub mod FrameLaws
+pub mod ReadLaws
+pub mod OneOutcomeLaws

@@ -1,0 +1,42 @@
+-- `check_head` refuses in document 01's order: at each return the tests that led there are put into the definition.
+use Prim.Native.Nat.{ℕ}
+use mathlib.Core.Path.{_≡_, refl, sym, ap, _∙_}
+use mathlib.Core.Bool.{not, cond}
+use borrow.Author.Needs.{needs}
+use borrow.Author.Tests.{lt-ltb, le-ltb, eq-eqb, ne-eqb}
+use lib.Dec.{eqb, ltb}
+use Rattle.question.specs.Refusals.{dataEnds, tagUnknown, tagOutOfPlace, wrongLength}
+use Rattle.answer.specs.declared.frames.Frame.the-variants.{Sound, Refused}
+use Rattle.answer.specs.Frames.{framed}
+use Rattle.answer.proofs.frames.check_head.Statement.{statement}
+use Rattle.answer.proofs.frames.check_head.Tie as tie
+
+-- the definition with what the calls gave
+asked : (c : tie.After-due-length) →
+    let a = c .before .before .before .args in
+    framed (a .due) (a .size) (a .tag) (a .length) (a .left) ≡
+    cond (not (c .before .is-known .result)) (Refused tagUnknown)
+    (cond (not (eqb (a .tag) (a .due))) (Refused tagOutOfPlace)
+    (cond (not (eqb (a .length) (c .due-length .result))) (Refused wrongLength)
+    (cond (ltb (a .left) (a .length)) (Refused dataEnds)
+    Sound)))
+unfolding framed
+asked c = rw (c .before .is-known .ensures, c .due-length .ensures, c .before .before .length-of .ensures)
+
+returns : tie.Need-returns
+returns c = sym (rw (c .if1 .taken) at (asked (c .before)))
+
+returns-2 : tie.Need-returns-2
+returns-2 c = sym (rw (c .before .if1 .left, ne-eqb _ _ (c .if2 .taken)) at (asked (c .before .before)))
+
+returns-3 : tie.Need-returns-3
+returns-3 c = sym (rw (c .before .before .if1 .left, eq-eqb _ _ (c .before .if2 .left), ne-eqb _ _ (c .if3 .taken)) at (asked (c .before .before .before)))
+
+returns-4 : tie.Need-returns-4
+returns-4 c = sym (rw (c .before .before .before .if1 .left, eq-eqb _ _ (c .before .before .if2 .left), eq-eqb _ _ (c .before .if3 .left), lt-ltb _ _ (c .if4 .taken)) at (asked (c .before .before .before .before)))
+
+returns-5 : tie.Need-returns-5
+returns-5 c = sym (rw (c .before .before .before .if1 .left, eq-eqb _ _ (c .before .before .if2 .left), eq-eqb _ _ (c .before .if3 .left), le-ltb _ _ (c .if4 .left)) at (asked (c .before .before .before .before)))
+
+pub check-head-spec : {M : Type 1} → statement M
+check-head-spec = tie.close (tie.spec (λ c κs. search needs) (λ c κs. search needs) (λ c κs. search needs) returns returns-2 returns-3 returns-4 returns-5)

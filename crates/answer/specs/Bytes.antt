@@ -1,0 +1,43 @@
+-- An answer as the bytes of a file: 40 with the verdict; if possible, 41 with the class numbers and 42 with the masks; then 7F.
+use Prim.Native.Nat.{ℕ}
+use mathlib.Core.List.{List, [], _∷_, _++_}
+use mathlib.Core.Option.{Option, none, some}
+use Rattle.theory.specs.Solutions.{Solution}
+use Rattle.field.specs.Heads.{fieldBytes}
+use Rattle.answer.specs.declared.answers.Verdict.{Verdict}
+use Rattle.answer.specs.declared.answers.Verdict.the-variants.{Possible, Impossible}
+use Rattle.answer.specs.Answers.{verdictOf}
+use Rattle.answer.specs.Bodies.{masksBody}
+
+-- the body of field 40
+abbrev pub verdictByte : Verdict → ℕ
+verdictByte Possible = 1
+verdictByte Impossible = 0
+
+-- field 40
+abbrev pub verdictBytes : Verdict → List ℕ
+verdictBytes v = fieldBytes 0x40 (verdictByte v ∷ [])
+
+-- field 41
+abbrev pub numbersBytes : List ℕ → List ℕ
+numbersBytes l = fieldBytes 0x41 l
+
+-- field 42
+abbrev pub masksBytes : List ℕ → List ℕ
+masksBytes ms = fieldBytes 0x42 (masksBody ms)
+
+abbrev pub solutionBytes : Solution → List ℕ
+solutionBytes sol = numbersBytes (sol .arrangement) ++ masksBytes (sol .masks)
+
+-- what stands between 40 and 7F
+unfoldable pub modelBytes : Option Solution → List ℕ
+modelBytes none = []
+modelBytes (some sol) = solutionBytes sol
+
+-- field 7F
+abbrev pub endBytes : List ℕ
+endBytes = fieldBytes 0x7f []
+
+-- a whole file
+unfoldable pub fileOf : Option Solution → List ℕ
+fileOf s = verdictBytes (verdictOf s) ++ (modelBytes s ++ endBytes)

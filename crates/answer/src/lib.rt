@@ -1,0 +1,15 @@
+// The answer to a question as a value, its writer and its reader.
+mod answers;
+mod bodies;
+mod checks;
+mod frames;
+mod reads;
+mod writes;
+
+pub use answers::Answer;
+pub use answers::Verdict;
+pub use reads::AnswerFileCheck;
+pub use reads::ReadAnswer;
+pub use reads::read_answer;
+pub use writes::AnswerWritten;
+pub use writes::write_answer;

@@ -1,0 +1,152 @@
+// The reader of answer files: bytes beside a question to an answer, or a refusal with its number and place. It does not judge the answer.
+use crate::answers::Answer;
+use crate::answers::Verdict;
+use crate::bodies::masks_at;
+use crate::bodies::numbers_at;
+use crate::checks::ClassCount;
+use crate::checks::all_below;
+use crate::checks::count_classes;
+use crate::checks::mask_bound;
+use crate::frames::Frame;
+use crate::frames::frame_at;
+use field::byte_at;
+use question::Question;
+use question::Refusal;
+use question::TableCheck;
+use question::check;
+use question::terms;
+ghost use mathlib.Core.Path.{_≡_};
+ghost use Prim.Native.Nat.{_≤_};
+ghost use Rattle.question.specs.Limits.{maxTerms};
+ghost use Rattle.answer.specs.Reads.{refusedFile, refusedAt, endRead, masksRead, numbersRead, verdictRead, fileRead, readAnswer};
+
+pub enum AnswerFileCheck {
+    Accepted,
+    Refused(Refusal),
+}
+
+// Whether the file is accepted, and its answer; where it is refused the answer is the impossible one.
+pub struct ReadAnswer {
+    pub outcome: AnswerFileCheck,
+    pub answer: Answer,
+}
+
+fn refuse_file(refusal: Refusal) -> ReadAnswer
+    ensures { λ r. ⌜ r ≡ refusedFile refusal ⌝ }
+{
+    let answer = Answer::impossible();
+    ReadAnswer {
+        outcome: AnswerFileCheck::Refused(refusal),
+        answer: answer,
+    }
+}
+
+fn refuse(number: u8, place: usize) -> ReadAnswer
+    ensures { λ r. ⌜ r ≡ refusedAt number place ⌝ }
+{
+    let refusal = Refusal::new(number, place);
+    refuse_file(refusal)
+}
+
+// Field 7F at a place, and 9 at the first extra byte.
+fn read_end(bytes: &[u8], at: usize, a: Answer) -> ReadAnswer
+    ensures { λ r. ⌜ r ≡ endRead (now (bytes .entry)) at a ⌝ }
+{
+    match frame_at(bytes, at, 0x7f, 0) {
+        Frame::Refused(number) => refuse(number, at),
+        Frame::Sound => {
+            let end = at + 3;
+            if end < bytes.len() {
+                return refuse(Refusal::BYTES_AFTER_END, end);
+            }
+            ReadAnswer {
+                outcome: AnswerFileCheck::Accepted,
+                answer: a,
+            }
+        }
+    }
+}
+
+// Field 42 at a place, behind the class numbers: 11 for a mask with a bit at or above the number of sets.
+fn read_masks(bytes: &[u8], at: usize, numbers: [u8; 12], classes: usize, bound: u64) -> ReadAnswer
+    requires { ⌜ classes ≤ maxTerms ⌝ }
+    ensures { λ r. ⌜ r ≡ masksRead bound (now (bytes .entry)) at numbers classes ⌝ }
+{
+    match frame_at(bytes, at, 0x42, 2 * classes) {
+        Frame::Refused(number) => refuse(number, at),
+        Frame::Sound => {
+            let masks = masks_at(bytes, at + 3, classes);
+            if !all_below(masks, classes, bound) {
+                return refuse(Refusal::BAD_MODEL, at);
+            }
+            let answer = Answer {
+                verdict: Verdict::Possible,
+                arrangement: numbers,
+                masks: masks,
+            };
+            read_end(bytes, at + 3 + 2 * classes, answer)
+        }
+    }
+}
+
+// Field 41 behind the verdict: 11 for a class number against the rule.
+fn read_numbers(bytes: &[u8], terms: usize, bound: u64) -> ReadAnswer
+    requires { ⌜ terms ≤ maxTerms ⌝ }
+    ensures { λ r. ⌜ r ≡ numbersRead terms bound (now (bytes .entry)) ⌝ }
+{
+    match frame_at(bytes, 4, 0x41, terms) {
+        Frame::Refused(number) => refuse(number, 4),
+        Frame::Sound => {
+            let numbers = numbers_at(bytes, 7, terms);
+            match count_classes(numbers, terms) {
+                ClassCount::Against => refuse(Refusal::BAD_MODEL, 4),
+                ClassCount::Classes(classes) => {
+                    read_masks(bytes, 7 + terms, numbers, classes, bound)
+                }
+            }
+        }
+    }
+}
+
+// By the verdict byte: 11 if it is above 1.
+fn read_verdict(bytes: &[u8], verdict: u8, terms: usize, bound: u64) -> ReadAnswer
+    requires { ⌜ terms ≤ maxTerms ⌝ }
+    ensures { λ r. ⌜ r ≡ verdictRead terms bound (now (bytes .entry)) verdict ⌝ }
+{
+    if verdict == 0 {
+        let answer = Answer::impossible();
+        return read_end(bytes, 4, answer);
+    }
+    if verdict == 1 {
+        return read_numbers(bytes, terms, bound);
+    }
+    refuse(Refusal::BAD_MODEL, 0)
+}
+
+// The answer of a file for so many terms, field by field from its first byte on.
+fn read_file(bytes: &[u8], terms: usize, bound: u64) -> ReadAnswer
+    requires { ⌜ terms ≤ maxTerms ⌝ }
+    ensures { λ r. ⌜ r ≡ fileRead terms bound (now (bytes .entry)) ⌝ }
+{
+    match frame_at(bytes, 0, 0x40, 0) {
+        Frame::Refused(number) => refuse(number, 0),
+        Frame::Sound => {
+            let verdict = byte_at(bytes, 3);
+            read_verdict(bytes, verdict, terms, bound)
+        }
+    }
+}
+
+// The answer of a file beside its question: the refusals of the table, then those of the file.
+pub fn read_answer(q: Question, bytes: &[u8]) -> ReadAnswer
+    ensures { λ r. ⌜ r ≡ readAnswer q (now (bytes .entry)) ⌝ }
+{
+    match check(q) {
+        TableCheck::Refused(refusal) => refuse_file(refusal),
+        TableCheck::Accepted => {
+            let total = terms(q);
+            let bound = mask_bound(q.sets);
+            read_file(bytes, total, bound)
+        }
+    }
+}
