@@ -23,8 +23,9 @@ use Rattle.question_file.specs.declared.steps.Step.{Step}
 use Rattle.question_file.specs.Frames.{inPlace, framed}
 use Rattle.question_file.specs.Steps.{declaring, taken, framedStep, fieldStep}
 use Rattle.question_file.specs.Reads.{follow, readFields, maxFields, readQuestion}
-use Rattle.question_file.proofs.BodyLaws.{Known, names, end, stated, field, known}
-use Rattle.question_file.proofs.TakenFieldLaws.{Went, by-names, by-statement, went, ended}
+use Rattle.question_file.proofs.BodyLaws.{Known, names, end, stated, known}
+use Rattle.question_file.proofs.TakenFieldLaws.{went, ended}
+use Rattle.question_file.proofs.PlaceLaws.{Early, early-first, early-next}
 
 -- a body that a question file allows has three bytes at the most
 allowed-short : (tag n : ℕ) → isKnown (lengthOf QuestionFile tag) ≡ true → isAllowed (lengthOf QuestionFile tag) n ≡ true → n ≤ 3
@@ -70,21 +71,10 @@ step-same (a ∷ b ∷ c ∷ d ∷ e ∷ g ∷ rest) later at q h =
     ∙ frame-same (framed at a (b * 256 + c) (length (a ∷ b ∷ c ∷ d ∷ e ∷ g ∷ rest) - 3)) a b c d e g (rest ++ later) rest at q
 
 module _ (bytes later : List ℕ) (long : 395 ≤ length bytes) where
-  -- the place of a field, where q is the question so far
-  record Early (at : ℕ) (q : Question) : Type 0 where
-    place : at ≤ 5 + 6 * q .count
-    few : q .count ≤ maxStatements
-
   within : (at : ℕ) (q : Question) → Early at q → fieldStep (drop at (bytes ++ later)) at q ≡ fieldStep (drop at bytes) at q
   within at q h =
       let room : at + 6 ≤ length bytes = omega (arith, h .place, h .few) in
       ap (λ l. fieldStep l at q) (drop-append-le at bytes later (omega arith)) ∙ step-same (drop at bytes) later at q (simp length-drop (omega arith))
-
-  early-next : (at : ℕ) (q : Question) (place : ℕ) (r : Question) → Early at q → Went (drop at bytes) at q place r → Early place r
-  early-next at q place r h (by-names E S after first a b bs p c) = let n : r .count ≡ 0 = ap (λ x. x .count) c in record { place = omega arith; few = omega arith }
-  early-next at q place r h (by-statement s after later full ok bs p c) =
-      let n : r .count ≡ q .count + 1 = ap (λ x. x .count) c in
-      record { place = omega (arith, h .place, field s .few); few = omega arith }
 
   read-same : (n at : ℕ) (q : Question) → Early at q → readFields n (bytes ++ later) at q ≡ readFields n bytes at q
   unfolding readFields
@@ -99,7 +89,7 @@ module _ (bytes later : List ℕ) (long : 395 ≤ length bytes) where
 
       go : (x : Next) → step .next ≡ x → ((place : ℕ) (r : Question) → Early place r → readFields n (bytes ++ later) place r ≡ readFields n bytes place r) →
           follow (length (bytes ++ later)) (readFields n (bytes ++ later)) x (step .question) ≡ follow (length bytes) (readFields n bytes) x (step .question)
-      go (More place) p on = on place (step .question) (early-next at q place (step .question) h (went (drop at bytes) at q place p))
+      go (More place) p on = on place (step .question) (early-next (drop at bytes) at q place (step .question) h (went (drop at bytes) at q place p))
       go (End place) p on =
           let behind : place ≡ at + 3 = ended (drop at bytes) at q place p .behind in
           let near : place < length bytes = omega (arith, h .place, h .few) in
@@ -108,4 +98,4 @@ module _ (bytes later : List ℕ) (long : 395 ≤ length bytes) where
 
 -- what is read of the first 395 bytes or more is read of all
 pub later-bytes : (bytes later : List ℕ) → 395 ≤ length bytes → readQuestion (bytes ++ later) ≡ readQuestion bytes
-later-bytes bytes later long = read-same bytes later long maxFields 0 (declaring 0 0) (record { place = omega arith; few = omega arith })
+later-bytes bytes later long = read-same bytes later long maxFields 0 (declaring 0 0) early-first
