@@ -7,6 +7,7 @@ use native.Mathlib.Numerals.{add-one}
 use lib.ListN.{length, getD, take, drop, set, length-set, length-drop}
 use lib.Seq.{length-take-le, take-suc, take-suc-set, getD-take, getD-drop}
 use Rattle.answer.specs.Bodies.{masksBody, masksIn}
+use Rattle.answer.specs.Bytes.{AreBytes}
 
 pub body-length : (ms : List ℕ) → length (masksBody ms) ≡ 2 * length ms
 unfolding masksBody
@@ -78,3 +79,25 @@ module _ (bytes : List ℕ) (at n : ℕ) (h : at + 2 * n ≤ length bytes) where
       let first : high ≡ getD body (2 * k) 0 = a ∙ sym (getD-take (2 * n) (drop at bytes) (2 * k) 0 (omega arith) ∙ getD-drop at bytes (2 * k) 0) in
       let second : low ≡ getD body (2 * k + 1) 0 = b ∙ ap (λ i. getD bytes i 0) o ∙ sym (getD-take (2 * n) (drop at bytes) (2 * k + 1) 0 (omega arith) ∙ getD-drop at bytes (2 * k + 1) 0) in
       e ∙ ap₂ (λ x y. x * 256 + y) first second ∙ sym (in-at body k (omega (arith, long)))
+
+-- masks below 2 to the 16 that are written are read back
+pub in-body : (ms : List ℕ) → ((k : ℕ) → k < length ms → getD ms k 0 < 65536) → masksIn (masksBody ms) ≡ ms
+unfolding masksBody masksIn
+in-body [] h = refl
+in-body (m ∷ ms) h =
+    let small = h 0 (omega arith) in
+    let first : m / 256 % 256 * 256 + m % 256 ≡ m = omega arith in
+    ap₂ (λ x l. x ∷ l) first (in-body ms (λ k less. h (suc k) (omega arith)))
+
+-- bytes that are read are written again
+pub body-in : (n : ℕ) (body : List ℕ) → length body ≡ 2 * n → AreBytes body → masksBody (masksIn body) ≡ body
+unfolding masksBody masksIn
+body-in n [] e h = refl
+body-in n (a ∷ []) e h = absurd (omega arith)
+body-in zero (a ∷ b ∷ body) e h = absurd (omega arith)
+body-in (suc n) (a ∷ b ∷ body) e h =
+    let x : a < 256 = h 0 (omega arith) in
+    let y : b < 256 = h 1 (omega arith) in
+    let high : (a * 256 + b) / 256 % 256 ≡ a = omega arith in
+    let low : (a * 256 + b) % 256 ≡ b = omega arith in
+    ap₂ (λ i l. i ∷ l) high (ap₂ (λ j l. j ∷ l) low (body-in n body (omega arith) (λ k less. h (suc (suc k)) (omega arith))))

@@ -10,6 +10,7 @@ use lib.Dec.{leb}
 use lib.ListN.{length, take, length-take}
 use Rattle.theory.specs.Arrangements.{classesAfter, classes}
 use Rattle.theory.specs.Solutions.{Solution}
+use Rattle.field.proofs.Never.{never}
 use Rattle.answer.specs.declared.answers.Verdict.{Verdict}
 use Rattle.answer.specs.declared.answers.Verdict.the-variants.{Possible, Impossible}
 use Rattle.answer.specs.declared.answers.Answer.{Answer}
@@ -21,7 +22,7 @@ use Rattle.answer.proofs.AnswerLaws.{said-none}
 
 pub and-true : (a b : Bool) → (a && b) ≡ true → (a ≡ true) × (b ≡ true)
 and-true true b e = (refl, e)
-and-true false b e = let z : _≡_ {A = ℕ} 0 1 = cc in absurd (omega arith)
+and-true false b e = never cc
 
 -- class numbers by the rule make at most one class each
 few-classes : (used : ℕ) (l : List ℕ) → mayFollow used l ≡ true → classesAfter used l ≤ used + length l
@@ -40,13 +41,13 @@ module _ (l : List ℕ) where
     where
       go : (b : Bool) → isArrangement l ≡ b → cond b (Classes (classes l)) Against ≡ Classes n → (isArrangement l ≡ true) × (n ≡ classes l)
       go true p e = (p, (cc))
-      go false p e = let z : _≡_ {A = ℕ} 0 1 = cc in absurd (omega arith)
+      go false p e = never cc
 
   pub against : classCount l ≡ Against → isArrangement l ≡ false
   against e = go (isArrangement l) refl e
     where
       go : (b : Bool) → isArrangement l ≡ b → cond b (Classes (classes l)) Against ≡ Against → isArrangement l ≡ false
-      go true p e = let z : _≡_ {A = ℕ} 0 1 = cc in absurd (omega arith)
+      go true p e = never cc
       go false p e = p
 
 -- the check of an answer, by its verdict, its class numbers and its masks
@@ -76,13 +77,13 @@ module _ (bound : ℕ) (s : Option Solution) where
     where
       go : (b : Bool) → isGood bound s ≡ b → cond b (Good (classesIn s)) Bad ≡ Good n → (isGood bound s ≡ true) × (n ≡ classesIn s)
       go true p e = (p, (cc))
-      go false p e = let z : _≡_ {A = ℕ} 0 1 = cc in absurd (omega arith)
+      go false p e = never cc
 
   pub is-bad : answerCheck bound s ≡ Bad → isGood bound s ≡ false
   is-bad e = go (isGood bound s) refl e
     where
       go : (b : Bool) → isGood bound s ≡ b → cond b (Good (classesIn s)) Bad ≡ Bad → isGood bound s ≡ false
-      go true p e = let z : _≡_ {A = ℕ} 0 1 = cc in absurd (omega arith)
+      go true p e = never cc
       go false p e = p
 
 pub good-few : (bound T : ℕ) (a : Answer) → isGood bound (said T a) ≡ true → classesIn (said T a) ≤ T

@@ -4,6 +4,9 @@ pub mod BodyLaws
 pub mod CheckLaws
 pub mod AnswerLaws
 pub mod GoodLaws
+pub mod MayLaws
 pub mod FrameLaws
 pub mod ReadLaws
+pub mod ReadBackLaws
+pub mod AcceptedFileLaws
 pub mod OneOutcomeLaws

@@ -10,12 +10,11 @@ use Rattle.theory.specs.Arrangements.{classes}
 use Rattle.answer.specs.declared.answers.Verdict.the-variants.{Possible}
 use Rattle.answer.specs.declared.answers.Answer.{Answer}
 use Rattle.answer.specs.declared.frames.Frame.the-variants.{Sound, Refused as BadFrame}
-use Rattle.answer.specs.declared.reads.AnswerFileCheck.the-variants.{Accepted}
 use Rattle.answer.specs.Answers.{padded, impossibleAnswer}
 use Rattle.answer.specs.Checks.{isArrangement, allBelow}
 use Rattle.answer.specs.Bodies.{masksIn}
 use Rattle.answer.specs.Frames.{frameOf}
-use Rattle.answer.specs.Reads.{refusedAt, endRead, masksRead, numbersRead, verdictRead, fileRead}
+use Rattle.answer.specs.Reads.{accepted, refusedAt, endRead, masksRead, numbersRead, verdictRead, fileRead}
 
 module _ (bytes : List ℕ) (at : ℕ) (a : Answer) where
   pub end-refused : (number : ℕ) → frameOf 0x7f 0 (drop at bytes) ≡ BadFrame number → endRead bytes at a ≡ refusedAt number at
@@ -26,7 +25,7 @@ module _ (bytes : List ℕ) (at : ℕ) (a : Answer) where
   unfolding endRead
   end-extra e h = rw (e, lt-ltb (at + 3) (length bytes) h)
 
-  pub end-whole : frameOf 0x7f 0 (drop at bytes) ≡ Sound → length bytes ≤ at + 3 → endRead bytes at a ≡ record { outcome = Accepted; answer = a }
+  pub end-whole : frameOf 0x7f 0 (drop at bytes) ≡ Sound → length bytes ≤ at + 3 → endRead bytes at a ≡ accepted a
   unfolding endRead
   end-whole e h = rw (e, le-ltb (at + 3) (length bytes) h)
 

@@ -40,6 +40,14 @@ asAnswer (some sol) = record { verdict = Possible; arrangement = padded (sol .ar
 abbrev pub impossibleAnswer : Answer
 impossibleAnswer = asAnswer none
 
+-- an answer with its ignored entries set to 0
+abbrev pub cleaned : ℕ → Answer → Answer
+cleaned T a = asAnswer (said T a)
+
+-- both arrays of an answer have twelve entries
+abbrev pub HasTwelve : Answer → Type 0
+HasTwelve a = (length (a .arrangement) ≡ maxTerms) × (length (a .masks) ≡ maxTerms)
+
 -- an arrangement of T terms, and a mask below the bound for each class
 pub record IsArranged (T bound : ℕ) (sol : Solution) : Type 0 where
   pub arranged : IsArrangement (sol .arrangement)

@@ -1,7 +1,8 @@
 -- An answer as the bytes of a file: 40 with the verdict; if possible, 41 with the class numbers and 42 with the masks; then 7F.
-use Prim.Native.Nat.{ℕ}
+use Prim.Native.Nat.{ℕ, _<_}
 use mathlib.Core.List.{List, [], _∷_, _++_}
 use mathlib.Core.Option.{Option, none, some}
+use lib.ListN.{length, getD}
 use Rattle.theory.specs.Solutions.{Solution}
 use Rattle.field.specs.Heads.{fieldBytes}
 use Rattle.answer.specs.declared.answers.Verdict.{Verdict}
@@ -41,3 +42,7 @@ endBytes = fieldBytes 0x7f []
 -- a whole file
 unfoldable pub fileOf : Option Solution → List ℕ
 fileOf s = verdictBytes (verdictOf s) ++ (modelBytes s ++ endBytes)
+
+-- each is a byte
+abbrev pub AreBytes : List ℕ → Type 0
+AreBytes bytes = (i : ℕ) → i < length bytes → getD bytes i 0 < 256

@@ -32,6 +32,10 @@ refusedFile r = record { outcome = Refused r; answer = impossibleAnswer }
 abbrev pub refusedAt : ℕ → ℕ → ReadAnswer
 refusedAt number place = refusedFile (refusal number place)
 
+-- an accepted file, with its answer
+abbrev pub accepted : Answer → ReadAnswer
+accepted a = record { outcome = Accepted; answer = a }
+
 -- what follows where the frame at a place is sound, else its refusal
 abbrev pub framedThen : ℕ → Frame → ReadAnswer → ReadAnswer
 framedThen at Sound next = next
@@ -45,7 +49,7 @@ goodThen at good next = cond good next (refusedAt badModel at)
 unfoldable pub endRead : List ℕ → ℕ → Answer → ReadAnswer
 endRead bytes at a =
     framedThen at (frameOf 0x7f 0 (drop at bytes))
-    (cond (ltb (at + 3) (length bytes)) (refusedAt bytesAfterEnd (at + 3)) (record { outcome = Accepted; answer = a }))
+    (cond (ltb (at + 3) (length bytes)) (refusedAt bytesAfterEnd (at + 3)) (accepted a))
 
 -- 42 at a place, behind the class numbers: two bytes for each of n classes
 unfoldable pub masksRead : ℕ → List ℕ → ℕ → List ℕ → ℕ → ReadAnswer
