@@ -1,19 +1,17 @@
 -- What an answer says, by its verdict, and how many bytes its file has.
-use Prim.Native.Nat.{ℕ, _+_, _*_, _≤_}
+use Prim.Native.Nat.{ℕ, _+_, _*_}
 use mathlib.Core.Path.{_≡_, refl, sym, ap, _∙_}
-use mathlib.Core.List.{List, [], _∷_, _++_}
-use mathlib.Core.Option.{Option, none, some}
+use mathlib.Core.List.{List, []}
+use mathlib.Core.Option.{none, some}
 use native.Mathlib.Omega.{arith}
-use lib.ListN.{length, take, length-append}
-use lib.Seq.{length-take-le}
+use lib.ListN.{length, length-append}
 use Rattle.theory.specs.Solutions.{Solution}
 use Rattle.answer.specs.declared.answers.Verdict.{Verdict}
 use Rattle.answer.specs.declared.answers.Verdict.the-variants.{Possible, Impossible}
 use Rattle.answer.specs.declared.answers.Answer.{Answer}
 use Rattle.answer.specs.Answers.{cutTo, saidBy, said, verdictOf}
 use Rattle.answer.specs.Checks.{classesIn}
-use Rattle.answer.specs.Bodies.{masksBody}
-use Rattle.answer.specs.Bytes.{masksBytes, numbersBytes, solutionBytes, modelBytes, fileOf}
+use Rattle.answer.specs.Bytes.{masksBytes, solutionBytes, modelBytes, fileOf}
 use Rattle.answer.proofs.BodyLaws.{body-length}
 
 module _ (T : ℕ) (a : Answer) where

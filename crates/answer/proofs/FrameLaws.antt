@@ -15,7 +15,6 @@ use Rattle.field.specs.Tags.{lengthIn, lengthOf, isKnown}
 use Rattle.field.specs.Heads.{fieldBytes, headOf}
 use Rattle.field.proofs.Never.{never}
 use Rattle.field.proofs.HeadLaws.{head-written, head-read}
-use Rattle.answer.specs.declared.frames.Frame.{Frame}
 use Rattle.answer.specs.declared.frames.Frame.the-variants.{Sound, Refused}
 use Rattle.answer.specs.Frames.{dueLength, framed, headFramed, frameOf}
 

@@ -1,9 +1,9 @@
 -- Which answers are good: what the count of the classes and the test of the masks tell, and that a good answer has no more classes than terms.
-use Prim.Native.Nat.{ℕ, suc, _+_, _≤_, _<_, max}
-use mathlib.Core.Path.{_≡_, refl, sym, ap, _∙_}
+use Prim.Native.Nat.{ℕ, suc, _+_, _≤_, max}
+use mathlib.Core.Path.{_≡_, refl, ap, _∙_}
 use mathlib.Core.Bool.{Bool, true, false, _&&_, cond}
 use mathlib.Core.List.{List, [], _∷_}
-use mathlib.Core.Option.{Option, none, some}
+use mathlib.Core.Option.{Option}
 use native.Mathlib.Omega.{arith}
 use borrow.Author.Tests.{leb-true}
 use lib.Dec.{leb}
@@ -16,7 +16,7 @@ use Rattle.answer.specs.declared.answers.Verdict.the-variants.{Possible,
 use Rattle.answer.specs.declared.answers.Answer.{Answer}
 use Rattle.answer.specs.declared.checks.ClassCount.the-variants.{Classes, Against}
 use Rattle.answer.specs.declared.checks.AnswerCheck.the-variants.{Good, Bad}
-use Rattle.answer.specs.Answers.{cutTo, saidBy, said}
+use Rattle.answer.specs.Answers.{saidBy, said}
 use Rattle.answer.specs.Checks.{mayFollow, isArrangement, classCount, allBelow, isGood, classesIn, answerCheck}
 use Rattle.answer.proofs.AnswerLaws.{said-none}
 

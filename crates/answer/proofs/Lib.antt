@@ -1,12 +1,18 @@
--- Laws that belong to no one function.
+-- Laws that belong to no one function, in the order in which they rest on each other.
+-- The answer as a value, its tests and its bodies:
 pub mod PaddedLaws
 pub mod BodyLaws
 pub mod CheckLaws
 pub mod AnswerLaws
 pub mod GoodLaws
 pub mod MayLaws
+-- The reader and the writer:
 pub mod FrameLaws
 pub mod ReadLaws
+pub mod WriterLaws
+-- Both round trips:
 pub mod ReadBackLaws
 pub mod AcceptedFileLaws
+pub mod RoundTrips
+-- What the contracts leave:
 pub mod OneOutcomeLaws

@@ -1,7 +1,7 @@
 -- What an answer may say: the tests tell it, an answer that is good says it, and its value says it again.
 use Prim.Native.Nat.{ℕ, zero, suc, _≤_, _<_, max}
-use mathlib.Core.Path.{_≡_, refl, sym, ap, ap₂, _∙_}
-use mathlib.Core.Bool.{true, _&&_}
+use mathlib.Core.Path.{_≡_, refl, ap, _∙_}
+use mathlib.Core.Bool.{true}
 use mathlib.Core.List.{List, [], _∷_}
 use mathlib.Core.Option.{Option, none, some}
 use native.Mathlib.Omega.{arith}
@@ -17,7 +17,7 @@ use Rattle.answer.specs.declared.answers.Verdict.the-variants.{Possible,
 use Rattle.answer.specs.declared.answers.Answer.{Answer}
 use Rattle.answer.specs.Answers.{saidBy, said, padded, asAnswer, HasTwelve, IsArranged, MaySay}
 use Rattle.answer.specs.Checks.{mayFollow, isArrangement, allBelow, isGood}
-use Rattle.answer.proofs.PaddedLaws.{take-padded}
+use Rattle.answer.proofs.PaddedLaws.{padded-length, take-padded}
 use Rattle.answer.proofs.GoodLaws.{and-true, classes-few}
 
 follows : (used : ℕ) (l : List ℕ) → mayFollow used l ≡ true → MayFollow used l
@@ -70,6 +70,10 @@ module _ (T bound : ℕ) where
   as-said (some sol) w =
       let l : take T (padded (sol .arrangement)) ≡ sol .arrangement = take-padded (sol .arrangement) T (w .each-term) in
       ap (λ x. some (withMasks x (take (classes x) (padded (sol .masks))))) l ∙ ap (λ ms. some (withMasks (sol .arrangement) ms)) (take-padded (sol .masks) (classes (sol .arrangement)) (w .each-class))
+
+  pub as-twelve : (s : Option Solution) → T ≤ maxTerms → MaySay T bound s → HasTwelve (asAnswer s)
+  as-twelve none few w = (padded-length [] (omega arith), padded-length [] (omega arith))
+  as-twelve (some sol) few w = (padded-length (sol .arrangement) (omega (arith, w .each-term)), padded-length (sol .masks) (omega (arith, w .each-class, may-few sol w)))
 
   -- a good answer says what may be said
   pub good-may : (a : Answer) → T ≤ maxTerms → HasTwelve a → isGood bound (said T a) ≡ true → MaySay T bound (said T a)

@@ -1,13 +1,11 @@
 -- The reader at the file of what may be said: field by field it makes the value of it again.
-use Prim.Native.Nat.{ℕ, _+_, _*_, _≤_, _<_}
-use mathlib.Core.Path.{_≡_, refl, sym, ap, ap₂, _∙_}
-use mathlib.Core.Bool.{true}
+use Prim.Native.Nat.{ℕ, _+_, _*_, _≤_}
+use mathlib.Core.Path.{_≡_, refl, sym, ap, _∙_}
 use mathlib.Core.List.{List, [], _∷_, _++_, append-assoc}
 use mathlib.Core.Option.{Option, none, some}
 use native.Mathlib.Omega.{arith}
 use lib.ListN.{length, take, drop}
 use lib.Seq.{take-at, drop-at, drop-drop}
-use Rattle.question.specs.Limits.{maxTerms}
 use Rattle.theory.specs.Arrangements.{classes}
 use Rattle.theory.specs.Solutions.{Solution}
 use Rattle.field.specs.Tags.{lengthIn}
@@ -19,7 +17,7 @@ use Rattle.answer.specs.Bodies.{masksBody, masksIn}
 use Rattle.answer.specs.Bytes.{verdictBytes, numbersBytes, masksBytes, endBytes, modelBytes, fileOf}
 use Rattle.answer.specs.Checks.{isArrangement, allBelow}
 use Rattle.answer.specs.Frames.{framed, frameOf}
-use Rattle.answer.specs.Reads.{accepted, endRead, masksRead, numbersRead, verdictRead, fileRead}
+use Rattle.answer.specs.Reads.{accepted, endRead, masksRead, verdictRead, fileRead}
 use Rattle.answer.proofs.BodyLaws.{body-length, in-body}
 use Rattle.answer.proofs.AnswerLaws.{some-length}
 use Rattle.answer.proofs.MayLaws.{arrangement-tested, masks-tested}

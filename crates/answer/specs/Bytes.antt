@@ -3,11 +3,14 @@ use Prim.Native.Nat.{ℕ, _<_}
 use mathlib.Core.List.{List, [], _∷_, _++_}
 use mathlib.Core.Option.{Option, none, some}
 use lib.ListN.{length, getD}
+use Rattle.question.specs.declared.questions.Question.{Question}
+use Rattle.question.specs.Questions.{termsOf}
 use Rattle.theory.specs.Solutions.{Solution}
 use Rattle.field.specs.Heads.{fieldBytes}
 use Rattle.answer.specs.declared.answers.Verdict.{Verdict}
 use Rattle.answer.specs.declared.answers.Verdict.the-variants.{Possible, Impossible}
-use Rattle.answer.specs.Answers.{verdictOf}
+use Rattle.answer.specs.declared.answers.Answer.{Answer}
+use Rattle.answer.specs.Answers.{said, verdictOf}
 use Rattle.answer.specs.Bodies.{masksBody}
 
 -- the body of field 40
@@ -42,6 +45,10 @@ endBytes = fieldBytes 0x7f []
 -- a whole file
 unfoldable pub fileOf : Option Solution → List ℕ
 fileOf s = verdictBytes (verdictOf s) ++ (modelBytes s ++ endBytes)
+
+-- the file of an answer, beside its question
+abbrev pub answerBytes : Question → Answer → List ℕ
+answerBytes q a = fileOf (said (termsOf q) a)
 
 -- each is a byte
 abbrev pub AreBytes : List ℕ → Type 0

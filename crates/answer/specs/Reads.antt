@@ -17,7 +17,6 @@ use Rattle.answer.specs.declared.answers.Verdict.the-variants.{Possible}
 use Rattle.answer.specs.declared.answers.Answer.{Answer}
 use Rattle.answer.specs.declared.frames.Frame.{Frame}
 use Rattle.answer.specs.declared.frames.Frame.the-variants.{Sound, Refused as BadFrame}
-use Rattle.answer.specs.declared.reads.AnswerFileCheck.{AnswerFileCheck}
 use Rattle.answer.specs.declared.reads.AnswerFileCheck.the-variants.{Accepted, Refused}
 use Rattle.answer.specs.declared.reads.ReadAnswer.{ReadAnswer}
 use Rattle.answer.specs.Answers.{padded, impossibleAnswer}

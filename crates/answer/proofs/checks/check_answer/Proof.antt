@@ -1,9 +1,9 @@
 -- `check_answer` goes by the verdict, then by the class numbers, then by the masks: a law for each way out.
-use mathlib.Core.Path.{_≡_, refl, sym, ap, _∙_}
+use mathlib.Core.Path.{_≡_, sym, _∙_}
 use mathlib.Core.Bool.{true, false}
 use native.Mathlib.Omega.{arith}
 use borrow.Author.Needs.{needs}
-use lib.ListN.{length, take, length-take}
+use lib.ListN.{take, length-take}
 use Rattle.answer.specs.declared.checks.ClassCount.the-variants.{Classes}
 use Rattle.answer.specs.Checks.{classCount}
 use Rattle.answer.proofs.GoodLaws.{classes-few, counted, check-none, check-against, check-masks}

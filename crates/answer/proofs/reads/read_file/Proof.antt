@@ -1,6 +1,6 @@
 -- `read_file` wants field 40 at the front, and goes on by its byte.
 use denote.Ref.{now}
-use mathlib.Core.Path.{_≡_, sym, ap, _∙_}
+use mathlib.Core.Path.{sym, ap, _∙_}
 use borrow.Author.Needs.{needs}
 use Rattle.answer.specs.Reads.{verdictRead}
 use Rattle.answer.proofs.ReadLaws.{file-refused, file-sound}

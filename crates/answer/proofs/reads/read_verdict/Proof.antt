@@ -1,6 +1,6 @@
 -- `read_verdict` goes by the verdict byte: a law for each way out.
 use denote.Ref.{now}
-use mathlib.Core.Path.{_≡_, sym, ap, _∙_}
+use mathlib.Core.Path.{sym, ap, _∙_}
 use borrow.Author.Needs.{needs}
 use Rattle.answer.specs.Reads.{endRead}
 use Rattle.answer.proofs.ReadLaws.{verdict-none, verdict-some, verdict-bad}

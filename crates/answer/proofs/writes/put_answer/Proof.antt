@@ -1,7 +1,7 @@
 -- `put_answer` writes field 40, the class numbers and masks behind it, and 7F behind them: a run of writes.
 use Prim.Native.Nat.{_+_, _-_, _≤_}
 use denote.Ref.{now}
-use mathlib.Core.Path.{_≡_, refl, sym, ap, _∙_}
+use mathlib.Core.Path.{_≡_, sym, ap, _∙_}
 use mathlib.Core.List.{[], _∷_, _++_}
 use native.Mathlib.Omega.{arith}
 use borrow.Author.Needs.{needs}

@@ -1,7 +1,7 @@
 -- `put_solution` writes field 41, and field 42 into the part that starts behind it.
 use Prim.Native.Nat.{_+_, _≤_}
 use denote.Ref.{now}
-use mathlib.Core.Path.{_≡_, sym, ap, _∙_}
+use mathlib.Core.Path.{_≡_, ap, _∙_}
 use native.Mathlib.Omega.{arith}
 use borrow.Author.Needs.{needs}
 use lib.ListN.{length, take, length-append, length-take, length-drop}

@@ -1,6 +1,5 @@
 -- `write_good` refuses an answer that is not good, and writes a good one.
-use denote.Ref.{now}
-use mathlib.Core.Path.{_≡_, refl, sym, ap, _∙_}
+use mathlib.Core.Path.{refl, sym, ap, _∙_}
 use native.Mathlib.Omega.{arith}
 use borrow.Author.Needs.{needs}
 use Rattle.answer.specs.declared.writes.AnswerWritten.the-variants.{Refused}
