@@ -1,0 +1,17 @@
+// The program: a question file on standard input, and on standard output its answer, or the report of its refusal.
+// Everything that matters is in the library. No byte after the 395th alters what is read, so 4,096 are enough.
+use answer::AnswerWritten;
+use sayfudhoum::respond;
+
+fn main() {
+    let mut input = io::buffer();
+    let n = io::read_full(0, &mut input);
+    // The longest answer has 49 bytes, so 10 never comes.
+    let mut output = [0u8; 49];
+    match respond(&input[0..n], &mut output) {
+        AnswerWritten::Bytes(count) => {
+            io::write_all(1, &output[0..count]);
+        }
+        AnswerWritten::Refused(_) => {}
+    }
+}

@@ -1,0 +1,29 @@
+-- The number of an outcome, by its case.
+use Prim.Native.Nat.{ℕ, _*_, _≤_}
+use mathlib.Core.Path.{_≡_, subst}
+use native.Mathlib.Omega.{arith}
+use Rattle.question.specs.declared.refusals.Refusal.{Refusal}
+use Rattle.answer.specs.declared.answers.Verdict.{Verdict}
+use Rattle.answer.specs.declared.answers.Verdict.the-variants.{Possible, Impossible}
+use Rattle.answer.specs.Bytes.{verdictByte}
+use Rattle.answer.specs.declared.writes.AnswerWritten.{AnswerWritten}
+use Rattle.answer.specs.declared.writes.AnswerWritten.the-variants.{Bytes, Refused as NotWritten}
+use Rattle.sayfudhoum.specs.declared.decisions.DecisionCheck.{DecisionCheck}
+use Rattle.sayfudhoum.specs.declared.decisions.DecisionCheck.the-variants.{Decided, Refused}
+use Rattle.sayfudhoum.specs.Numbers.{refusalNumber, writtenNumber, outcomeNumber, maxPlace, IsSmall, IsShort}
+
+module _ (w : AnswerWritten) where
+  pub written-count : (n : ℕ) → w ≡ Bytes n → IsShort w → n ≤ maxPlace
+  written-count n e h = subst IsShort e h
+
+  pub written-place : (r : Refusal) → w ≡ NotWritten r → IsShort w → r .place ≤ maxPlace
+  written-place r e h = subst IsShort e h
+
+module _ (o : DecisionCheck) where
+  pub outcome-place : (r : Refusal) → o ≡ Refused r → IsSmall o → r .place ≤ maxPlace
+  outcome-place r e h = subst IsSmall e h
+
+-- a verdict is one bit
+pub verdict-small : (v : Verdict) → verdictByte v ≤ 1
+verdict-small Possible = omega arith
+verdict-small Impossible = omega arith

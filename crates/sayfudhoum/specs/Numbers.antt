@@ -1,0 +1,48 @@
+-- The one number that a call for C gives back: its lowest byte is the refusal number, or 0; the rest is the place, the count of bytes, or the verdict.
+use Prim.Native.Nat.{ℕ, _+_, _*_, _≤_}
+use mathlib.Core.List.{List}
+use Rattle.question.specs.declared.refusals.Refusal.{Refusal}
+use Rattle.answer.specs.declared.writes.AnswerWritten.{AnswerWritten}
+use Rattle.answer.specs.declared.writes.AnswerWritten.the-variants.{Bytes, Refused as NotWritten}
+use Rattle.answer.specs.Bytes.{verdictByte}
+use Rattle.sayfudhoum.specs.declared.decisions.DecisionCheck.{DecisionCheck}
+use Rattle.sayfudhoum.specs.declared.decisions.DecisionCheck.the-variants.{Decided, Refused}
+use Rattle.sayfudhoum.specs.declared.decisions.Decision.{Decision}
+use Rattle.sayfudhoum.specs.Files.{fileDecided, answered}
+
+-- a refusal: its place, and its number in the lowest byte
+abbrev pub refusalNumber : Refusal → ℕ
+refusalNumber r = r .place * 256 + r .number
+
+-- a count of bytes, or the refusal
+abbrev pub writtenNumber : AnswerWritten → ℕ
+writtenNumber (Bytes n) = n * 256
+writtenNumber (NotWritten r) = refusalNumber r
+
+-- 1 for possible and 0 for impossible, or the refusal
+abbrev pub outcomeNumber : DecisionCheck → ℕ → ℕ
+outcomeNumber Decided verdict = verdict * 256
+outcomeNumber (Refused r) verdict = refusalNumber r
+
+abbrev pub decisionNumber : Decision → ℕ
+decisionNumber d = outcomeNumber (d .outcome) (verdictByte (d .answer .verdict))
+
+-- what `sayfudhoum_answer` gives back, where there is room for so many bytes
+unfoldable pub answerNumber : List ℕ → ℕ → ℕ
+answerNumber bytes room = writtenNumber (answered bytes room)
+
+-- what `sayfudhoum_verdict` gives back
+unfoldable pub verdictNumber : List ℕ → ℕ
+verdictNumber bytes = decisionNumber (fileDecided bytes)
+
+-- places and counts that leave room for the lowest byte
+abbrev pub maxPlace : ℕ
+maxPlace = 392
+
+abbrev pub IsSmall : DecisionCheck → Type 0
+IsSmall Decided = Unit {0}
+IsSmall (Refused r) = r .place ≤ maxPlace
+
+abbrev pub IsShort : AnswerWritten → Type 0
+IsShort (Bytes n) = n ≤ maxPlace
+IsShort (NotWritten r) = r .place ≤ maxPlace

@@ -1,0 +1,30 @@
+// The two calls for the generator's C build. They pass only numbers and byte slices, and refuse by number.
+use crate::files::answer_file;
+use crate::files::decide_file;
+use crate::numbers::outcome_number;
+use crate::numbers::written_number;
+ghost use mathlib.Core.Path.{_≡_};
+ghost use lib.ListN.{length};
+ghost use Rattle.sayfudhoum.specs.Files.{answeredOver};
+ghost use Rattle.sayfudhoum.specs.Numbers.{answerNumber, verdictNumber};
+
+// Question bytes to answer bytes: the count of the bytes written, or the refusal.
+#[no_mangle]
+pub extern "C" fn sayfudhoum_answer(question: &[u8], answer: &mut [u8]) -> u64
+    ensures { λ r. ⌜ (r ≡ answerNumber (now (question .entry)) (length (now (answer .entry)))) × (now (answer .exit) ≡ answeredOver (now (question .entry)) (now (answer .entry))) ⌝ }
+{
+    let written = answer_file(question, answer);
+    written_number(written)
+}
+
+// Question bytes to a verdict: 1 for possible, 0 for impossible, or the refusal.
+#[no_mangle]
+pub extern "C" fn sayfudhoum_verdict(question: &[u8]) -> u64
+    ensures { λ r. ⌜ r ≡ verdictNumber (now (question .entry)) ⌝ }
+{
+    let decision = decide_file(question);
+    let outcome = decision.outcome;
+    let answer = decision.answer;
+    let verdict = answer.verdict;
+    outcome_number(outcome, verdict)
+}

@@ -1,0 +1,45 @@
+// The number that a call for C gives back: the lowest byte is the refusal number, or 0; the rest is the place, the count of bytes, or the verdict.
+use crate::decisions::DecisionCheck;
+use answer::AnswerWritten;
+use answer::Verdict;
+use question::Refusal;
+ghost use mathlib.Core.Path.{_≡_};
+ghost use Prim.Native.Nat.{_≤_};
+ghost use Rattle.answer.specs.Bytes.{verdictByte};
+ghost use Rattle.sayfudhoum.specs.Numbers.{maxPlace, IsSmall, IsShort, refusalNumber, writtenNumber, outcomeNumber};
+
+fn refusal_number(refusal: Refusal) -> u64
+    requires { ⌜ refusal .place ≤ maxPlace ⌝ }
+    ensures { λ r. ⌜ r ≡ refusalNumber refusal ⌝ }
+{
+    refusal.place as u64 * 256 + refusal.number as u64
+}
+
+fn verdict_value(verdict: Verdict) -> u64
+    ensures { λ r. ⌜ r ≡ verdictByte verdict ⌝ }
+{
+    match verdict {
+        Verdict::Possible => 1,
+        Verdict::Impossible => 0,
+    }
+}
+
+pub(crate) fn outcome_number(outcome: DecisionCheck, verdict: Verdict) -> u64
+    requires { ⌜ IsSmall outcome ⌝ }
+    ensures { λ r. ⌜ r ≡ outcomeNumber outcome (verdictByte verdict) ⌝ }
+{
+    match outcome {
+        DecisionCheck::Decided => verdict_value(verdict) * 256,
+        DecisionCheck::Refused(refusal) => refusal_number(refusal),
+    }
+}
+
+pub(crate) fn written_number(written: AnswerWritten) -> u64
+    requires { ⌜ IsShort written ⌝ }
+    ensures { λ r. ⌜ r ≡ writtenNumber written ⌝ }
+{
+    match written {
+        AnswerWritten::Bytes(count) => count as u64 * 256,
+        AnswerWritten::Refused(refusal) => refusal_number(refusal),
+    }
+}
