@@ -5,6 +5,7 @@ use mathlib.Core.Bool.{Bool, true, false, cond}
 use mathlib.Core.List.{List}
 use mathlib.Core.Option.{Option}
 use native.Mathlib.Omega.{arith}
+use borrow.Author.Tests.{ltb-false}
 use lib.Dec.{ltb}
 use lib.ListN.{length}
 use Rattle.question.specs.declared.refusals.Refusal.{Refusal}
@@ -18,6 +19,9 @@ use Rattle.question_file.specs.declared.reads.ReadQuestion.{ReadQuestion}
 use Rattle.question_file.specs.Reads.{readQuestion}
 use Rattle.question_file.proofs.PlaceLaws.{place-small}
 use Rattle.question_file.proofs.RoundTrips.{read-checked}
+use Rattle.outcome.specs.Over.{over}
+use Rattle.outcome.proofs.OverLaws.{over-length}
+use Rattle.field.proofs.Never.{never}
 use Rattle.theory.specs.Answers.{answer}
 use Rattle.answer.specs.declared.writes.AnswerWritten.{AnswerWritten}
 use Rattle.answer.specs.declared.writes.AnswerWritten.the-variants.{Bytes, Refused}
@@ -104,3 +108,11 @@ module _ (bytes : List ℕ) where
       go : (o : FileCheck) → readQuestion bytes .outcome ≡ o → IsShort (answeredBy o (answerIn bytes) room)
       go Accepted p = fits (ltb room (length (fileOf (answerIn bytes)))) (file-short (readQuestion bytes .question) (read-checked bytes p))
       go (RefusedFile r) p = place-small bytes r p
+
+-- what is written lies in the buffer
+pub written-within : (bytes old new : List ℕ) (n : ℕ) → fitted bytes (length old) ≡ Bytes n → new ≡ fittedOver bytes old → n ≤ length new
+written-within bytes old new n e b = rw b (go (ltb (length old) (length bytes)) refl e)
+  where
+    go : (short : Bool) → ltb (length old) (length bytes) ≡ short → cond short (Refused (refusal bufferTooShort 0)) (Bytes (length bytes)) ≡ Bytes n → n ≤ length (cond short old (over bytes old))
+    go true p e = never cc
+    go false p e = let same : length bytes ≡ n = cc in omega (arith, same, over-length bytes old (ltb-false (length old) (length bytes) p), ltb-false (length old) (length bytes) p)
