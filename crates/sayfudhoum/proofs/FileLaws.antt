@@ -29,7 +29,7 @@ use Rattle.answer.specs.Bytes.{fileOf}
 use Rattle.answer.specs.Writes.{fitted, fittedOver}
 use Rattle.sayfudhoum.specs.declared.decisions.DecisionCheck.{DecisionCheck}
 use Rattle.sayfudhoum.specs.Decisions.{undecided, decided}
-use Rattle.sayfudhoum.specs.Files.{answerIn, decidedBy, fileDecided, answeredBy, answered, overBy, answeredOver, reportBytes, responseBy, response}
+use Rattle.sayfudhoum.specs.Files.{answerIn, decidedBy, fileDecided, answeredBy, answered, overBy, answeredOver, reportBytes, responseBy, response, responded, respondedOver}
 use Rattle.sayfudhoum.specs.Numbers.{IsSmall, IsShort}
 use Rattle.sayfudhoum.proofs.DecisionLaws.{decided-accepted}
 use Rattle.sayfudhoum.proofs.AnsweredLaws.{file-short}
@@ -110,9 +110,14 @@ module _ (bytes : List ℕ) where
       go (RefusedFile r) p = place-small bytes r p
 
 -- what is written lies in the buffer
-pub written-within : (bytes old new : List ℕ) (n : ℕ) → fitted bytes (length old) ≡ Bytes n → new ≡ fittedOver bytes old → n ≤ length new
-written-within bytes old new n e b = rw b (go (ltb (length old) (length bytes)) refl e)
+within : (bytes old new : List ℕ) (n : ℕ) → fitted bytes (length old) ≡ Bytes n → new ≡ fittedOver bytes old → n ≤ length new
+within bytes old new n e b = rw b (go (ltb (length old) (length bytes)) refl e)
   where
     go : (short : Bool) → ltb (length old) (length bytes) ≡ short → cond short (Refused (refusal bufferTooShort 0)) (Bytes (length bytes)) ≡ Bytes n → n ≤ length (cond short old (over bytes old))
     go true p e = never cc
     go false p e = let same : length bytes ≡ n = cc in omega (arith, same, over-length bytes old (ltb-false (length old) (length bytes) p), ltb-false (length old) (length bytes) p)
+
+-- the program's output lies in its buffer
+pub response-within : (bytes old new : List ℕ) (n : ℕ) → responded bytes (length old) ≡ Bytes n → new ≡ respondedOver bytes old → n ≤ length new
+unfolding responded respondedOver
+response-within bytes old new n e b = within (response bytes) old new n e b

@@ -56,3 +56,10 @@ responseBy (RefusedFile r) s = reportBytes r
 
 unfoldable pub response : List ℕ → List ℕ
 response bytes = responseBy (readQuestion bytes .outcome) (answerIn bytes)
+
+-- in a lent buffer: 10 if it is shorter
+unfoldable pub responded : List ℕ → ℕ → AnswerWritten
+responded bytes room = fitted (response bytes) room
+
+unfoldable pub respondedOver : List ℕ → List ℕ → List ℕ
+respondedOver bytes old = fittedOver (response bytes) old

@@ -16,7 +16,7 @@ ghost use Rattle.question.specs.Checks.{checked};
 ghost use Rattle.theory.specs.Answers.{answer};
 ghost use Rattle.answer.specs.Bytes.{fileOf};
 ghost use Rattle.answer.specs.Writes.{fitted, fittedOver};
-ghost use Rattle.sayfudhoum.specs.Files.{fileDecided, answered, answeredOver, reportBytes, response};
+ghost use Rattle.sayfudhoum.specs.Files.{fileDecided, answered, answeredOver, reportBytes, responded, respondedOver};
 
 // The decision of a question file: the refusals of the file, else the answer to its question.
 pub fn decide_file(bytes: &[u8]) -> Decision
@@ -75,7 +75,7 @@ fn report(refusal: Refusal, buf: &mut [u8]) -> AnswerWritten
 
 // What the program writes to a question file: the answer, or a report of the file's refusal. 49 bytes are enough for either; 10 if there are too few.
 pub fn respond(bytes: &[u8], buf: &mut [u8]) -> AnswerWritten
-    ensures { λ r. ⌜ (r ≡ fitted (response (now (bytes .entry))) (length (now (buf .entry)))) × (now (buf .exit) ≡ fittedOver (response (now (bytes .entry))) (now (buf .entry))) ⌝ }
+    ensures { λ r. ⌜ (r ≡ responded (now (bytes .entry)) (length (now (buf .entry)))) × (now (buf .exit) ≡ respondedOver (now (bytes .entry)) (now (buf .entry))) ⌝ }
 {
     let read = read_question(bytes);
     let outcome = read.outcome;

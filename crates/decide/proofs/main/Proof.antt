@@ -2,14 +2,14 @@
 use mathlib.Core.Path.{_≡_, sym, _∙_}
 use native.Mathlib.Omega.{arith}
 use borrow.Author.Needs.{needs}
-use Rattle.sayfudhoum.proofs.FileLaws.{written-within}
+use Rattle.sayfudhoum.proofs.FileLaws.{response-within}
 use Rattle.decide.proofs.main.Statement.{statement}
 use Rattle.decide.proofs.main.Tie as tie
 
 part-write-all-end : tie.Need-part-write-all-end
 part-write-all-end c =
     let r = c .before .before .before .before .before .respond in
-    omega (arith, written-within _ _ _ _ (sym (r .ensures .0) ∙ c .before .before .count .given .1) (r .ensures .1))
+    omega (arith, response-within _ _ _ _ (sym (r .ensures .0) ∙ c .before .before .count .given .1) (r .ensures .1))
 
 pub main-spec : {M : Type 1} → statement M
 main-spec =

@@ -4,11 +4,13 @@ use mathlib.Core.Path.{_≡_, sym, ap, _∙_}
 use borrow.Author.Needs.{needs}
 use lib.ListN.{length}
 use Rattle.answer.specs.Writes.{fitted, fittedOver}
+use Rattle.sayfudhoum.specs.Files.{responded, respondedOver}
 use Rattle.sayfudhoum.proofs.FileLaws.{refused-response, question-checked, accepted-response}
 use Rattle.sayfudhoum.proofs.files.respond.Statement.{statement}
 use Rattle.sayfudhoum.proofs.files.respond.Tie as tie
 
 returns : tie.Need-returns
+unfolding responded respondedOver
 returns c =
     let s = c .before .before .before .before .before .before .before in
     let is = sym (refused-response _ _ (s .read-question .ensures) _ (c .before .before .before .before .before .outcome .given .1)) in
@@ -17,6 +19,7 @@ returns c =
     (w .0 ∙ ap (λ l. fitted l (length old)) is, w .1 ∙ ap (λ l. fittedOver l old) is)
 
 returns-2 : tie.Need-returns-2
+unfolding responded respondedOver
 returns-2 c =
     let s = c .before .before .before .before .before .before .before in
     let is = sym (accepted-response _ _ (s .read-question .ensures) (c .before .before .before .before .before .enum-told .given .1)) in
