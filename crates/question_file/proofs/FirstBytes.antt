@@ -25,7 +25,7 @@ use Rattle.question_file.specs.Steps.{declaring, taken, framedStep, fiel
 use Rattle.question_file.specs.Reads.{follow, readFields, maxFields, readQuestion}
 use Rattle.question_file.proofs.BodyLaws.{Known, names, end, stated, known}
 use Rattle.question_file.proofs.TakenFieldLaws.{went, ended}
-use Rattle.question_file.proofs.PlaceLaws.{Early, early-first, early-next}
+use Rattle.question_file.proofs.RefusalLaws.{Early, early-first, early-next}
 
 -- a body that a question file allows has three bytes at the most
 allowed-short : (tag n : ℕ) → isKnown (lengthOf QuestionFile tag) ≡ true → isAllowed (lengthOf QuestionFile tag) n ≡ true → n ≤ 3

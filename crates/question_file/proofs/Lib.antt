@@ -14,7 +14,7 @@ pub mod WriterLaws
 pub mod ReadBackLaws
 pub mod AcceptedFileLaws
 pub mod RoundTrips
-pub mod PlaceLaws
+pub mod RefusalLaws
 pub mod FirstBytes
 -- What the contracts leave, and the edges that document 01 names:
 pub mod OneOutcomeLaws

@@ -17,7 +17,7 @@ use Rattle.question_file.specs.declared.reads.FileCheck.{FileCheck}
 use Rattle.question_file.specs.declared.reads.FileCheck.the-variants.{Accepted, Refused as RefusedFile}
 use Rattle.question_file.specs.declared.reads.ReadQuestion.{ReadQuestion}
 use Rattle.question_file.specs.Reads.{readQuestion}
-use Rattle.question_file.proofs.PlaceLaws.{place-small}
+use Rattle.question_file.proofs.RefusalLaws.{refusal-told}
 use Rattle.question_file.proofs.RoundTrips.{read-checked}
 use Rattle.outcome.specs.Over.{over}
 use Rattle.outcome.proofs.OverLaws.{over-length}
@@ -95,7 +95,7 @@ module _ (bytes : List ℕ) where
     where
       go : (o : FileCheck) → readQuestion bytes .outcome ≡ o → IsSmall (decidedBy o (answerIn bytes) .outcome)
       go Accepted p = tt
-      go (RefusedFile r) p = place-small bytes r p
+      go (RefusedFile r) p = refusal-told bytes r p .1
 
   pub answered-short : (room : ℕ) → IsShort (answered bytes room)
   unfolding answered
@@ -107,7 +107,7 @@ module _ (bytes : List ℕ) where
 
       go : (o : FileCheck) → readQuestion bytes .outcome ≡ o → IsShort (answeredBy o (answerIn bytes) room)
       go Accepted p = fits (ltb room (length (fileOf (answerIn bytes)))) (file-short (readQuestion bytes .question) (read-checked bytes p))
-      go (RefusedFile r) p = place-small bytes r p
+      go (RefusedFile r) p = refusal-told bytes r p .1
 
 -- what is written lies in the buffer
 within : (bytes old new : List ℕ) (n : ℕ) → fitted bytes (length old) ≡ Bytes n → new ≡ fittedOver bytes old → n ≤ length new
