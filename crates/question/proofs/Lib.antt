@@ -4,4 +4,5 @@ pub mod StatementsLaws
 pub mod CheckLaws
 pub mod EverywhereLaws
 pub mod AcceptedLaws
+pub mod NamesLaws
 pub mod OneResultLaws

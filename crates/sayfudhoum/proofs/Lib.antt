@@ -3,3 +3,7 @@ pub mod DecisionLaws
 pub mod AnsweredLaws
 pub mod FileLaws
 pub mod NumberLaws
+-- What the two calls are worth, and what the contracts leave:
+pub mod ShownLaws
+pub mod EndToEnd
+pub mod OneOutcomeLaws

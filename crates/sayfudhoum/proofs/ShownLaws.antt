@@ -1,22 +1,84 @@
--- The answer to an accepted question as a model for the judge: the judge says yes to it.
-use Prim.Native.Nat.{ℕ, _+_, _≤_, _<_, zero-le}
-use mathlib.Core.Path.{_≡_, refl, sym, ap, _∙_}
-use mathlib.Core.Bool.{Bool, true, _&&_}
-use mathlib.Core.List.{List}
+-- The answer to an accepted question, as a model for the judge: it agrees with the solution on every name declared, so the judge says yes to it.
+use Prim.Native.Nat.{ℕ, zero, suc, _^_, _≤_, _<_}
+use mathlib.Core.Path.{_≡_, refl, sym, ap, fun-ext, _∙_}
+use mathlib.Core.Bool.{true}
+use mathlib.Core.List.{List, [], _∷_, _++_}
 use native.Mathlib.Omega.{arith}
-use borrow.Author.Tests.{lt-ltb, le-leb}
-use lib.Dec.{T, ltb, leb}
-use lib.ListN.{length, getD, take}
+use borrow.Author.Tests.{le-leb}
+use lib.Dec.{T, lt→ltb}
+use lib.ListN.{length, getD, take, replicate}
+use lib.Seq.{getD-take}
 use Rattle.question.specs.declared.questions.Question.{Question}
 use Rattle.question.specs.Limits.{maxElements, maxTerms}
 use Rattle.question.specs.Questions.{statements, termsOf}
 use Rattle.question.specs.Checks.{IsAccepted}
-use Rattle.question.specs.Meaning.{Assignment, everywhere, AllHold}
-use Rattle.theory.specs.Arrangements.{classes, classOf}
+use Rattle.question.specs.Masks.{bit}
+use Rattle.question.specs.Meaning.{AllHold}
+use Rattle.question.proofs.TestLaws.{true-T}
+use Rattle.question.proofs.EverywhereLaws.{everywhere-of}
+use Rattle.question.proofs.NamesLaws.{hold-same}
+use Rattle.theory.specs.Arrangements.{classes}
 use Rattle.theory.specs.Solutions.{Solution, maskOf}
-use Rattle.theory.specs.Answers.{maskBound, answer, asModel}
+use Rattle.theory.specs.Answers.{Solves, asModel}
+use Rattle.theory.proofs.ArrangementLaws.{classes-few}
+use Rattle.theory.proofs.DemandThree.{model-assignment, model-holds}
 use Rattle.judge.specs.declared.judging.Judgement.the-variants.{Yes}
 use Rattle.judge.specs.Models.{assigned, elementsInside, masksInside, isModel}
 use Rattle.judge.specs.Judgements.{judged}
 use Rattle.judge.proofs.Verdicts.{yes-means}
+use Rattle.answer.specs.Answers.{padded}
 use Rattle.sayfudhoum.specs.Models.{modelShown}
+
+-- an entry past the numbers is 0, as an entry past the array
+zeros : (n i : ℕ) → getD (replicate n 0) i 0 ≡ 0
+zeros zero i = refl
+zeros (suc n) zero = refl
+zeros (suc n) (suc i) = zeros n i
+
+behind : (l : List ℕ) (n i : ℕ) → getD (l ++ replicate n 0) i 0 ≡ getD l i 0
+behind [] n i = zeros n i
+behind (x ∷ l) n zero = refl
+behind (x ∷ l) n (suc i) = behind l n i
+
+entry : (l : List ℕ) (i : ℕ) → getD (padded l) i 0 ≡ getD l i 0
+unfolding padded
+entry l i = behind l _ i
+
+module _ (q : Question) (accepted : IsAccepted q) (sol : Solution) (s : Solves q sol) where
+  -- the class of a name, and the mask of a class
+  class-shown : (a : ℕ) → a < q .elements → getD (modelShown sol .elements) a 0 ≡ getD (sol .arrangement) a 0
+  unfolding modelShown
+  class-shown a lt = getD-take maxElements (padded (sol .arrangement)) a 0 (omega (arith, accepted .few-elements)) ∙ entry (sol .arrangement) a
+
+  mask-shown : (k : ℕ) → getD (modelShown sol .masks) k 0 ≡ maskOf (sol .masks) k
+  unfolding modelShown
+  mask-shown k = entry (sol .masks) k
+
+  size-shown : modelShown sol .size ≡ classes (sol .arrangement)
+  unfolding modelShown
+  size-shown = refl
+
+  is-model : isModel (q .elements) (q .sets) (modelShown sol) ≡ true
+  unfolding isModel elementsInside masksInside
+  is-model = rw (le-leb (modelShown sol .size) maxTerms few, true-T _ elements, true-T _ masks)
+    where
+      few : modelShown sol .size ≤ maxTerms
+      few = omega (arith, size-shown, classes-few 0 (sol .arrangement) (s .arranged), s .each-term, accepted .few-terms)
+
+      elements : T (elementsInside (q .elements) (modelShown sol))
+      unfolding elementsInside
+      elements = everywhere-of (q .elements) _ (λ a lt. lt→ltb _ _ (omega (arith, class-shown a lt, size-shown, model-assignment q accepted sol s .within (record { 0 = a }) lt)))
+
+      masks : T (masksInside (q .sets) (modelShown sol))
+      unfolding masksInside
+      masks = everywhere-of (modelShown sol .size) _ (λ k lt. lt→ltb _ _ (omega (arith, mask-shown k, s .masks-below k (omega (arith, size-shown)))))
+
+  all-hold : AllHold (assigned (modelShown sol)) (statements q)
+  all-hold =
+      hold-same (asModel sol) (assigned (modelShown sol)) (sym size-shown) (q .elements) (q .sets)
+      (λ a lt. sym (class-shown (a .0) lt))
+      (λ x lt. fun-ext (λ k. ap (λ m. bit m (x .0)) (sym (mask-shown k))))
+      (statements q) (accepted .all-declared) (model-holds q accepted sol s)
+
+  pub judge-yes : judged q (modelShown sol) ≡ Yes
+  judge-yes = yes-means q (modelShown sol) .1 (record { question-accepted = accepted; model = is-model; all-hold = all-hold })

@@ -1,0 +1,29 @@
+-- Each public contract of this crate leaves one outcome: one result, and of those that write one buffer.
+use denote.Ref.{now}
+use Rattle.outcome.specs.OneResult.{OneResult}
+use Rattle.outcome.specs.OneOutcome.{OneOutcome}
+use Rattle.outcome.proofs.OneLaw.{both}
+use Rattle.sayfudhoum.proofs.decisions.decide.Reads as decide
+use Rattle.sayfudhoum.proofs.files.decide_file.Reads as decide-file
+use Rattle.sayfudhoum.proofs.files.answer_file.Reads as answer-file
+use Rattle.sayfudhoum.proofs.files.respond.Reads as respond
+use Rattle.sayfudhoum.proofs.exports.sayfudhoum_answer.Reads as sayfudhoum-answer
+use Rattle.sayfudhoum.proofs.exports.sayfudhoum_verdict.Reads as sayfudhoum-verdict
+
+decide-one : OneResult decide.Learnt
+decide-one κs given x y s t = both
+
+decide-file-one : OneResult decide-file.Learnt
+decide-file-one κs given x y s t = both
+
+answer-file-one : OneOutcome answer-file.Learnt (λ κs s. now (s .1 .0))
+answer-file-one κs given x y s t p q = (both (p .0) (q .0), both (p .1) (q .1))
+
+respond-one : OneOutcome respond.Learnt (λ κs s. now (s .1 .0))
+respond-one κs given x y s t p q = (both (p .0) (q .0), both (p .1) (q .1))
+
+sayfudhoum-answer-one : OneOutcome sayfudhoum-answer.Learnt (λ κs s. now (s .1 .0))
+sayfudhoum-answer-one κs given x y s t p q = (both (p .0) (q .0), both (p .1) (q .1))
+
+sayfudhoum-verdict-one : OneResult sayfudhoum-verdict.Learnt
+sayfudhoum-verdict-one κs given x y s t = both
