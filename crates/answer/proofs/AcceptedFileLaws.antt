@@ -69,7 +69,7 @@ last-accepted : (place : ℕ) (b : Bool) (a : Answer) → cond b (refusedAt byte
 last-accepted place true a e = never cc
 last-accepted place false a e = refl
 
-module _ (bytes : List ℕ) (areBytes : AreBytes bytes) where
+module _ (bytes : List ℕ) (are-bytes : AreBytes bytes) where
   end-accepted : (at : ℕ) (a : Answer) → endRead bytes at a .outcome ≡ Accepted → (drop at bytes ≡ endBytes) × (endRead bytes at a .answer ≡ a)
   unfolding endRead
   end-accepted at a e =
@@ -81,7 +81,7 @@ module _ (bytes : List ℕ) (areBytes : AreBytes bytes) where
   body-bytes : (at n : ℕ) → at + n ≤ length bytes → AreBytes (take n (drop at bytes))
   body-bytes at n h i less =
       let size : length (take n (drop at bytes)) ≡ n = length-take-le n (drop at bytes) (simp length-drop (omega arith)) in
-      rw (getD-take n (drop at bytes) i 0 (omega arith), getD-drop at bytes i 0) (areBytes (at + i) (omega arith))
+      rw (getD-take n (drop at bytes) i 0 (omega arith), getD-drop at bytes i 0) (are-bytes (at + i) (omega arith))
 
   module _ (bound : ℕ) where
     masks-accepted : (at : ℕ) (numbers : List ℕ) (n : ℕ) → n ≤ maxTerms → masksRead bound bytes at numbers n .outcome ≡ Accepted → MasksTaken bound bytes at numbers n (masksRead bound bytes at numbers n .answer)

@@ -1,4 +1,4 @@
--- A frame is sound exactly if the head of the due tag and length is there, and all of the body.
+-- A frame is sound exactly if the head of the due tag and length is there, and all of the body; and so exactly if the field was written so.
 use Prim.Native.Nat.{ℕ, _+_, _-_, _≤_, _<_}
 use mathlib.Core.Path.{_≡_, refl, sym, ap, subst, _∙_}
 use mathlib.Core.Bool.{Bool, true, false, not, cond}

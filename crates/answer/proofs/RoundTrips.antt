@@ -71,7 +71,7 @@ module _ (q : Question) (a : Answer) (twelve : HasTwelve a) (f : Fits q a) where
   same-back = ap (λ r. said (termsOf q) (r .answer)) read-back ∙ as-said (termsOf q) (maskBound q) (said (termsOf q) a) says
 
 -- an accepted file: its question is accepted,
-module _ (q : Question) (bytes : List ℕ) (areBytes : AreBytes bytes) (e : readAnswer q bytes .outcome ≡ Accepted) where
+module _ (q : Question) (bytes : List ℕ) (are-bytes : AreBytes bytes) (e : readAnswer q bytes .outcome ≡ Accepted) where
   question-accepted : checked q ≡ AcceptedTable
   unfolding readAnswer
   question-accepted = go (checked q) e
@@ -83,7 +83,7 @@ module _ (q : Question) (bytes : List ℕ) (areBytes : AreBytes bytes) (e : read
   pub read-whole : WholeFile (termsOf q) (maskBound q) bytes (readAnswer q bytes .answer)
   read-whole =
       let c = read-checked q question-accepted bytes in
-      rw c (accepted-file bytes areBytes (maskBound q) (termsOf q) (few-terms q question-accepted) (sym (ap (λ r. r .outcome) c) ∙ e))
+      rw c (accepted-file bytes are-bytes (maskBound q) (termsOf q) (few-terms q question-accepted) (sym (ap (λ r. r .outcome) c) ∙ e))
 
   read-says : said (termsOf q) (readAnswer q bytes .answer) ≡ read-whole .says
   read-says = ap (said (termsOf q)) (read-whole .made) ∙ as-said (termsOf q) (maskBound q) (read-whole .says) (read-whole .may)
@@ -108,15 +108,15 @@ module _ (q : Question) (bytes : List ℕ) (areBytes : AreBytes bytes) (e : read
 -- the reader accepts exactly the files of what may be said
 pub accepts : (q : Question) (bytes : List ℕ) → checked q ≡ AcceptedTable → AreBytes bytes →
     (readAnswer q bytes .outcome ≡ Accepted) ↔ ((s : Option Solution) × MaySay (termsOf q) (maskBound q) s × (bytes ≡ fileOf s))
-accepts q bytes c areBytes = (
-  λ e. let f = read-whole q bytes areBytes e in (f .says, f .may, f .written),
+accepts q bytes c are-bytes = (
+  λ e. let f = read-whole q bytes are-bytes e in (f .says, f .may, f .written),
   λ w. ap (λ r. r .outcome) (ap (readAnswer q) (w .2) ∙ file-back q c (w .0) (w .1)),
 )
 
 -- which are the files that the writer could write
 pub accepts-written : (q : Question) (bytes : List ℕ) → AreBytes bytes → (readAnswer q bytes .outcome ≡ Accepted) ↔ ((a : Answer) × HasTwelve a × Fits q a × (bytes ≡ answerBytes q a))
-accepts-written q bytes areBytes = (
-  λ e. (readAnswer q bytes .answer, read-twelve q bytes areBytes e, read-fits q bytes areBytes e, sym (written-again q bytes areBytes e)),
+accepts-written q bytes are-bytes = (
+  λ e. (readAnswer q bytes .answer, read-twelve q bytes are-bytes e, read-fits q bytes are-bytes e, sym (written-again q bytes are-bytes e)),
   λ w. ap (λ r. r .outcome) (ap (readAnswer q) (w .3) ∙ read-back q (w .0) (w .1) (w .2)),
 )
 
@@ -130,9 +130,9 @@ back-from-buffer q a n old new bytes twelve w b t =
 -- and what is read is written again
 again-in-buffer : (q : Question) (bytes old : List ℕ) (a : Answer) → AreBytes bytes → readAnswer q bytes .outcome ≡ Accepted → a ≡ readAnswer q bytes .answer → length bytes ≤ length old →
     (written q a (length old) ≡ Bytes (length bytes)) × (writtenOver q a old ≡ over bytes old)
-again-in-buffer q bytes old a areBytes e s h =
-    let same : answerBytes q a ≡ bytes = ap (answerBytes q) s ∙ written-again q bytes areBytes e in
-    let k : Writable q a (length old) = (rw s (read-fits q bytes areBytes e), omega (arith, ap length same)) in
+again-in-buffer q bytes old a are-bytes e s h =
+    let same : answerBytes q a ≡ bytes = ap (answerBytes q) s ∙ written-again q bytes are-bytes e in
+    let k : Writable q a (length old) = (rw s (read-fits q bytes are-bytes e), omega (arith, ap length same)) in
     (writable-written q a (length old) k ∙ ap (λ l. Bytes (length l)) same, written-over q a old k ∙ ap (λ l. over l old) same)
 
 -- what a call of `write_answer` wrote, a call of `read_answer` beside the same question gives back
@@ -145,7 +145,7 @@ written-then-read w r n twelve e q b =
 -- what a call of `read_answer` accepted, a call of `write_answer` beside the same question with enough room writes again
 pub read-then-written : (r : Call read.Learnt) (w : Call write.Learnt) → AreBytes (now (r .given .1 .0)) → r .result .outcome ≡ Accepted → w .given .0 ≡ r .given .0 → w .given .1 .0 ≡ r .result .answer → length (now (r .given .1 .0)) ≤ length (now (w .given .1 .1 .0)) →
     (w .result ≡ Bytes (length (now (r .given .1 .0)))) × (now (w .exit .1 .1 .0) ≡ over (now (r .given .1 .0)) (now (w .given .1 .1 .0)))
-read-then-written r w areBytes e q s h =
+read-then-written r w are-bytes e q s h =
     let same = r .fits ∙ ap (λ x. readAnswer x (now (r .given .1 .0))) (sym q) in
-    let k = again-in-buffer (w .given .0) (now (r .given .1 .0)) (now (w .given .1 .1 .0)) (w .given .1 .0) areBytes (sym (ap (λ x. x .outcome) same) ∙ e) (s ∙ ap (λ x. x .answer) same) h in
+    let k = again-in-buffer (w .given .0) (now (r .given .1 .0)) (now (w .given .1 .1 .0)) (w .given .1 .0) are-bytes (sym (ap (λ x. x .outcome) same) ∙ e) (s ∙ ap (λ x. x .answer) same) h in
     (w .fits .0 ∙ k .0, w .fits .1 ∙ k .1)
