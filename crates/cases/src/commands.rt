@@ -2,7 +2,12 @@
 ghost use mathlib.Core.Path.{_≡_};
 ghost use Prim.Native.Nat.{_≤_};
 ghost use lib.ListN.{length};
+use answer::Answer;
+use answer::AnswerFileCheck;
+use answer::read_answer;
+use answer::write_answer;
 use crate::lines::decode;
+use crate::models::answer;
 use crate::models::fill_rows;
 use crate::models::model;
 use crate::models::model_of;
@@ -18,6 +23,9 @@ use question_file::read_question;
 use question_file::write_question;
 use reduction::Reduced;
 use reduction::reduce;
+use sayfudhoum::answer_file;
+use sayfudhoum::respond;
+use sayfudhoum::sayfudhoum_verdict;
 use search::SearchAnswer;
 use search::Verdict;
 use search::search;
@@ -62,6 +70,59 @@ fn write_table(bytes: &[u8], group: &[u8]) {
     let mut file = io::buffer();
     let n = room(group);
     write_into(table(bytes), &mut file[0..n]);
+}
+
+// An answer beside its question, written.
+fn write_answer_into(q: Question, a: Answer, file: &mut [u8]) {
+    outcomes::written(write_answer(q, a, file), file);
+}
+
+// The answer of a file beside its question, written again.
+fn read_beside(q: Question, bytes: &[u8]) {
+    let read = read_answer(q, bytes);
+    let outcome = read.outcome;
+    match outcome {
+        AnswerFileCheck::Accepted => {
+            let answer = read.answer;
+            let mut file = io::buffer();
+            write_answer_into(q, answer, &mut file);
+        }
+        AnswerFileCheck::Refused(r) => outcomes::refusal(r),
+    }
+}
+
+// A: a table, and the file of an answer to it.
+fn read_answer_file(bytes: &[u8], file: &[u8]) {
+    read_beside(table(bytes), file);
+}
+
+// B: a table, a verdict and class numbers, and masks: an answer written.
+fn write_value(bytes: &[u8], numbers: &[u8], memberships: &[u8]) {
+    let mut file = io::buffer();
+    write_answer_into(table(bytes), answer(numbers, memberships), &mut file);
+}
+
+fn answer_into(bytes: &[u8], file: &mut [u8]) {
+    outcomes::written(answer_file(bytes, file), file);
+}
+
+// Q: a question file answered, with room for so many bytes.
+fn answer_question_file(bytes: &[u8], group: &[u8]) {
+    let mut file = io::buffer();
+    let n = room(group);
+    answer_into(bytes, &mut file[0..n]);
+}
+
+fn respond_into(bytes: &[u8], file: &mut [u8]) {
+    outcomes::written(respond(bytes, file), file);
+}
+
+// P: what the program writes to a question file, and the verdict's number.
+fn respond_to(bytes: &[u8]) {
+    let mut file = io::buffer();
+    respond_into(bytes, &mut file);
+    outcomes::text(b", verdict ");
+    outcomes::hexadecimal(sayfudhoum_verdict(bytes));
 }
 
 // Room for 768 rows or bytes, or for as many as the group says.
@@ -151,6 +212,10 @@ fn run_case(letter: u8, first: &[u8], second: &[u8], third: &[u8]) {
         b'R' => reduce_table(first, second),
         b'S' => search_rows(first, second),
         b'D' => decide(first),
+        b'A' => read_answer_file(first, second),
+        b'B' => write_value(first, second, third),
+        b'Q' => answer_question_file(first, second),
+        b'P' => respond_to(first),
         _ => outcomes::text(b"no such case"),
     }
     outcomes::text(b"\n");

@@ -1,5 +1,7 @@
 // Models and rows as they may be handed in, four bytes a mask or row, high byte first.
 use crate::tables::byte_at;
+use answer::Answer;
+use answer::Verdict;
 use judge::Model;
 use search::SearchAnswer;
 ghost use Prim.Native.Nat.{_≤_};
@@ -42,6 +44,32 @@ pub fn model(points: &[u8], memberships: &[u8]) -> Model {
     Model {
         size: byte_at(points, 0) as usize,
         elements: elements(points),
+        masks: masks(memberships),
+    }
+}
+
+fn class_numbers(numbers: &[u8]) -> [u8; 12] {
+    let mut arrangement = [0u8; 12];
+    let mut i: usize = 0;
+    while i < 12 {
+        arrangement[i] = byte_at(numbers, i + 1);
+        i += 1;
+    }
+    arrangement
+}
+
+fn verdict(byte: u8) -> Verdict {
+    if byte == 0 {
+        return Verdict::Impossible;
+    }
+    Verdict::Possible
+}
+
+// A verdict and the class numbers, then the masks.
+pub fn answer(numbers: &[u8], memberships: &[u8]) -> Answer {
+    Answer {
+        verdict: verdict(byte_at(numbers, 0)),
+        arrangement: class_numbers(numbers),
         masks: masks(memberships),
     }
 }

@@ -1,4 +1,5 @@
 // How an outcome is printed.
+use answer::AnswerWritten;
 use judge::Judgement;
 use libc::STDOUT_FILENO;
 use question::Refusal;
@@ -60,6 +61,23 @@ pub fn bytes(file: &[u8]) {
         io::print_hex(STDOUT_FILENO, file[i] as u64, 2);
         i += 1;
     }
+}
+
+// The bytes that a writer put into a buffer.
+pub fn written(w: AnswerWritten, file: &[u8]) {
+    match w {
+        AnswerWritten::Bytes(count) => {
+            if count <= file.len() {
+                text(b"file");
+                bytes(&file[0..count]);
+            }
+        }
+        AnswerWritten::Refused(r) => refusal(r),
+    }
+}
+
+pub fn hexadecimal(n: u64) {
+    io::print_hex(STDOUT_FILENO, n, 6);
 }
 
 // The class numbers of so many terms.

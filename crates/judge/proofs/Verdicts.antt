@@ -1,6 +1,6 @@
 -- What a judgement means: yes exactly if question and model are sound and every statement holds; no at the first statement that fails.
 use Prim.Native.Nat.{ℕ, zero, suc, _+_, _<_, zero-le}
-use mathlib.Core.Path.{_≡_, refl, sym, ap, subst, _∙_}
+use mathlib.Core.Path.{_≡_, refl, sym, subst}
 use mathlib.Core.Bool.{Bool, true, false, _&&_, cond}
 use mathlib.Core.List.{List, [], _∷_}
 use mathlib.Core.Logic.{_↔_}
@@ -21,7 +21,6 @@ use Rattle.question.proofs.AcceptedLaws.{accepted}
 use Rattle.question.proofs.TestLaws.{T-true, and-left, and-right}
 use Rattle.question.proofs.EverywhereLaws.{everywhere-at}
 use Rattle.judge.specs.declared.models.Model.{Model}
-use Rattle.judge.specs.declared.judging.Judgement.{Judgement}
 use Rattle.judge.specs.declared.judging.Judgement.the-variants.{Yes, No, Refused}
 use Rattle.judge.specs.Models.{assigned, elementsInside, masksInside, isModel}
 use Rattle.judge.specs.Judgements.{firstFailing, modelJudged, acceptedThen, judged}

@@ -8,7 +8,6 @@ ghost use Prim.Native.Nat.{_^_};
 ghost use lib.Dec.{ltb};
 ghost use lib.ListN.{getD};
 ghost use Rattle.question.specs.Masks.{bit};
-ghost use Rattle.question.specs.Meaning.{everywhere};
 ghost use Rattle.judge.specs.Models.{assigned, elementsInside, masksInside, isModel};
 
 pub struct Model {

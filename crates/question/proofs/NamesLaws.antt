@@ -12,7 +12,7 @@ use Rattle.question.specs.declared.statements.Statement.{Statement}
 use Rattle.question.specs.declared.statements.Statement.the-variants.{ElementsEqual, ElementsDiffer, In, NotIn, SetsEqual, SetsDiffer, Empty, Single, Union, Intersection, Difference}
 use Rattle.question.specs.declared.admissions.NameTest.the-variants.{Declared, Undeclared}
 use Rattle.question.specs.Statements.{Name, element, set, namesOf}
-use Rattle.question.specs.Admissions.{declared, leftmost, nameTest}
+use Rattle.question.specs.Admissions.{declared, leftmost}
 use Rattle.question.specs.Checks.{AllDeclared}
 use Rattle.question.specs.Meaning.{Assignment, everywhere, holds, AllHold}
 

@@ -25,7 +25,7 @@ use Rattle.row.specs.Rows.{packRow}
 use Rattle.reduction.specs.declared.reducing.Reduced.the-variants.{Rows, Refused}
 use Rattle.reduction.specs.Writing.{statementRows}
 use Rattle.reduction.specs.Reducing.{packedRows, reduced, reducedBuffer}
-use Rattle.reduction.proofs.WritingLaws.{rows-written, written, written-count}
+use Rattle.reduction.proofs.WritingLaws.{rows-written, written-count}
 
 -- the rows of some statements, packed: so many terms, w the next witness
 abbrev pub rowsOf : ℕ → ℕ → List Statement → List ℕ

@@ -3,12 +3,9 @@ use Prim.Native.Nat.{ℕ, suc, _≤_}
 use mathlib.Core.Path.{_≡_, refl}
 use mathlib.Core.Bool.{Bool, true, false, _||_, cond}
 use mathlib.Core.List.{List, [], _∷_, map}
-use native.Mathlib.Omega.{arith}
 use borrow.Author.Tests.{ltb-false, le-ltb}
 use lib.Dec.{T, ltb}
 use lib.ListN.{length}
-use Rattle.question.specs.declared.refusals.Refusal.{Refusal}
-use Rattle.question.specs.declared.checks.TableCheck.{TableCheck}
 use Rattle.question.specs.declared.checks.TableCheck.the-variants.{Accepted, Refused}
 use Rattle.question.specs.Limits.{maxTerms, maxSets, maxRows}
 use Rattle.question.specs.Refusals.{refusal, tooManyNames, tooManyStatements, badRow}

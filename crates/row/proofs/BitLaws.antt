@@ -1,5 +1,5 @@
 -- A power of two as a shift of 1, and the lowest bits of a number as a mask.
-use Prim.Native.Nat.{ℕ, _+_, _-_, _*_, _%_, _^_, _≤_, _<_}
+use Prim.Native.Nat.{ℕ, _-_, _*_, _%_, _^_, _≤_}
 use mathlib.Core.Path.{_≡_, ap, _∙_}
 use native.Mathlib.Omega.{arith}
 use lib.Bits.{bitAnd, and-mask}

@@ -1,6 +1,6 @@
 -- Rows as numbers: the kind of each test, and the row that a number says.
 use Prim.Native.Nat.{ℕ}
-use mathlib.Core.List.{List, [], _∷_, map}
+use mathlib.Core.List.{[], _∷_, map}
 use lib.ListN.{getD}
 use Rattle.theory.specs.Rules.{Row}
 use Rattle.theory.specs.Sets.{Test, IsSame, IsNotSame, IsIn, IsNotIn, ExactlyIfIn, ExactlyIfNotIn, ExactlyIfSame, ExactlyIfOr, ExactlyIfAnd, ExactlyIfAndNot, Place, term, set, placesOf}

@@ -1,11 +1,11 @@
 -- A decision is what the search finds in the question's rows, and what the search finds there is the answer.
-use Prim.Native.Nat.{ℕ, _^_, _≤_}
+use Prim.Native.Nat.{ℕ, _≤_}
 use mathlib.Core.Path.{_≡_, refl, sym, ap, ap₂, _∙_}
 use mathlib.Core.Bool.{Bool, true, false, cond}
 use mathlib.Core.List.{List, map}
 use mathlib.Core.Option.{Option, none, some}
 use native.Mathlib.Omega.{arith}
-use borrow.Author.Tests.{ltb-true, ltb-false}
+use borrow.Author.Tests.{ltb-true}
 use lib.Dec.{ltb}
 use lib.ListN.{length, take}
 use lib.Seq.{take-append-seam}
@@ -26,16 +26,13 @@ use Rattle.theory.specs.FirstModels.{firstModel}
 use Rattle.theory.specs.Sets.{fits}
 use Rattle.theory.specs.Answers.{maskBound, answer}
 use Rattle.row.specs.Rows.{rowOf}
-use Rattle.reduction.specs.declared.reducing.Reduced.{Reduced}
 use Rattle.reduction.specs.declared.reducing.Reduced.the-variants.{Rows, Refused as NotReduced}
 use Rattle.reduction.specs.Reducing.{packedRows, reducedThen, reduced, reducedBuffer}
 use Rattle.reduction.proofs.ReducingLaws.{packed-few, rows-buffer}
 use Rattle.reduction.proofs.ReducedRows.{rows-pass, rows-say}
-use Rattle.search.specs.declared.answers.SearchAnswer.{SearchAnswer}
 use Rattle.search.specs.Answers.{answerOf, searched}
 use Rattle.search.proofs.SearchedLaws.{searched-accepted}
 use Rattle.answer.specs.Answers.{padded, asAnswer}
-use Rattle.sayfudhoum.specs.declared.decisions.Decision.{Decision}
 use Rattle.sayfudhoum.specs.Decisions.{undecided, decidedAs, decidedThen, decided, shown}
 
 module _ (q : Question) where

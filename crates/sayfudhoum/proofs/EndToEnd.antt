@@ -1,41 +1,37 @@
 -- The end-to-end theorem, on the contracts of the two calls for C: for all bytes, what a call gives back and writes is what document 01 says of them.
 -- "Impossible" means that no assignment over any finite domain meets the statements; "possible" shows the first model, which meets every statement, and the judge says yes to it.
-use Prim.Native.Nat.{ℕ, _+_, _*_, _≤_, _<_}
+use Prim.Native.Nat.{ℕ, _+_, _*_, _<_}
 use denote.Ref.{now}
-use mathlib.Core.Path.{_≡_, refl, sym, ap, ap₂, subst, _∙_}
-use mathlib.Core.Bool.{Bool, true, false, cond}
+use mathlib.Core.Path.{_≡_, refl}
+use mathlib.Core.Bool.{Bool, true, false}
 use mathlib.Core.List.{List}
-use mathlib.Core.Logic.{_↔_}
 use mathlib.Core.Option.{Option, none, some}
 use native.Mathlib.Omega.{arith}
-use borrow.Author.Tests.{ltb-true, ltb-false}
+use borrow.Author.Tests.{ltb-true}
 use lib.Dec.{ltb}
 use lib.ListN.{length}
 use Rattle.question.specs.declared.refusals.Refusal.{Refusal}
 use Rattle.question.specs.declared.questions.Question.{Question}
-use Rattle.question.specs.Refusals.{refusal, bufferTooShort}
 use Rattle.question.specs.Questions.{statements}
 use Rattle.question.specs.Checks.{IsAccepted}
 use Rattle.question.specs.Meaning.{Assignment, IsAssignment, AllHold}
 use Rattle.question.proofs.AcceptedLaws.{accepted}
-use Rattle.field.proofs.Never.{never}
 use Rattle.question_file.specs.declared.reads.FileCheck.{FileCheck}
 use Rattle.question_file.specs.declared.reads.FileCheck.the-variants.{Accepted, Refused as RefusedFile}
 use Rattle.question_file.specs.Reads.{readQuestion}
 use Rattle.question_file.proofs.RefusalLaws.{refusal-told}
 use Rattle.question_file.proofs.RoundTrips.{read-checked}
 use Rattle.theory.specs.Solutions.{Solution}
-use Rattle.theory.specs.Answers.{IsFirstModelOf, answer, asModel}
+use Rattle.theory.specs.Answers.{IsFirstModelOf, asModel}
 use Rattle.theory.proofs.AnswerLaws.{answer-first, answer-impossible, answer-solution, answer-assignment, answer-holds}
 use Rattle.judge.specs.declared.judging.Judgement.the-variants.{Yes}
 use Rattle.judge.specs.Judgements.{judged}
 use Rattle.outcome.specs.Over.{over}
 use Rattle.outcome.specs.Calls.{Call}
-use Rattle.answer.specs.declared.writes.AnswerWritten.the-variants.{Bytes, Refused}
 use Rattle.answer.specs.Bytes.{fileOf}
 use Rattle.sayfudhoum.specs.Models.{modelShown}
 use Rattle.sayfudhoum.specs.Files.{answerIn, decidedBy, fileDecided, answeredBy, answered, overBy, answeredOver}
-use Rattle.sayfudhoum.specs.Numbers.{refusalNumber, writtenNumber, decisionNumber, answerNumber, verdictNumber}
+use Rattle.sayfudhoum.specs.Numbers.{writtenNumber, decisionNumber, answerNumber, verdictNumber}
 use Rattle.sayfudhoum.proofs.ShownLaws.{judge-yes}
 use Rattle.sayfudhoum.proofs.exports.sayfudhoum_answer.Reads as answer-call
 use Rattle.sayfudhoum.proofs.exports.sayfudhoum_verdict.Reads as verdict-call

@@ -3,7 +3,6 @@ use Prim.Native.Nat.{ℕ, _≤_}
 use mathlib.Core.Path.{_≡_, refl, sym, ap, ap₂, _∙_}
 use mathlib.Core.Bool.{Bool, true, false, cond}
 use mathlib.Core.List.{List}
-use mathlib.Core.Option.{Option}
 use native.Mathlib.Omega.{arith}
 use borrow.Author.Tests.{ltb-false}
 use lib.Dec.{ltb}
@@ -23,11 +22,9 @@ use Rattle.outcome.specs.Over.{over}
 use Rattle.outcome.proofs.OverLaws.{over-length}
 use Rattle.field.proofs.Never.{never}
 use Rattle.theory.specs.Answers.{answer}
-use Rattle.answer.specs.declared.writes.AnswerWritten.{AnswerWritten}
 use Rattle.answer.specs.declared.writes.AnswerWritten.the-variants.{Bytes, Refused}
 use Rattle.answer.specs.Bytes.{fileOf}
 use Rattle.answer.specs.Writes.{fitted, fittedOver}
-use Rattle.sayfudhoum.specs.declared.decisions.DecisionCheck.{DecisionCheck}
 use Rattle.sayfudhoum.specs.Decisions.{undecided, decided}
 use Rattle.sayfudhoum.specs.Files.{answerIn, decidedBy, fileDecided, answeredBy, answered, overBy, answeredOver, reportBytes, responseBy, response, responded, respondedOver}
 use Rattle.sayfudhoum.specs.Numbers.{IsSmall, IsShort}

@@ -1,5 +1,5 @@
 -- The number of an outcome, by its case.
-use Prim.Native.Nat.{ℕ, _*_, _≤_}
+use Prim.Native.Nat.{ℕ, _≤_}
 use mathlib.Core.Path.{_≡_, subst}
 use native.Mathlib.Omega.{arith}
 use Rattle.question.specs.declared.refusals.Refusal.{Refusal}
@@ -9,8 +9,8 @@ use Rattle.answer.specs.Bytes.{verdictByte}
 use Rattle.answer.specs.declared.writes.AnswerWritten.{AnswerWritten}
 use Rattle.answer.specs.declared.writes.AnswerWritten.the-variants.{Bytes, Refused as NotWritten}
 use Rattle.sayfudhoum.specs.declared.decisions.DecisionCheck.{DecisionCheck}
-use Rattle.sayfudhoum.specs.declared.decisions.DecisionCheck.the-variants.{Decided, Refused}
-use Rattle.sayfudhoum.specs.Numbers.{refusalNumber, writtenNumber, outcomeNumber, maxPlace, IsSmall, IsShort}
+use Rattle.sayfudhoum.specs.declared.decisions.DecisionCheck.the-variants.{Refused}
+use Rattle.sayfudhoum.specs.Numbers.{maxPlace, IsSmall, IsShort}
 
 module _ (w : AnswerWritten) where
   pub written-count : (n : ℕ) → w ≡ Bytes n → IsShort w → n ≤ maxPlace

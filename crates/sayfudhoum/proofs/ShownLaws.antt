@@ -1,16 +1,16 @@
 -- The answer to an accepted question, as a model for the judge: it agrees with the solution on every name declared, so the judge says yes to it.
-use Prim.Native.Nat.{ℕ, zero, suc, _^_, _≤_, _<_}
+use Prim.Native.Nat.{ℕ, zero, suc, _-_, _^_, _≤_, _<_}
 use mathlib.Core.Path.{_≡_, refl, sym, ap, fun-ext, _∙_}
 use mathlib.Core.Bool.{true}
 use mathlib.Core.List.{List, [], _∷_, _++_}
 use native.Mathlib.Omega.{arith}
 use borrow.Author.Tests.{le-leb}
-use lib.Dec.{T, lt→ltb}
-use lib.ListN.{length, getD, take, replicate}
+use lib.Dec.{T, ltb, lt→ltb}
+use lib.ListN.{length, getD, replicate}
 use lib.Seq.{getD-take}
 use Rattle.question.specs.declared.questions.Question.{Question}
 use Rattle.question.specs.Limits.{maxElements, maxTerms}
-use Rattle.question.specs.Questions.{statements, termsOf}
+use Rattle.question.specs.Questions.{statements}
 use Rattle.question.specs.Checks.{IsAccepted}
 use Rattle.question.specs.Masks.{bit}
 use Rattle.question.specs.Meaning.{AllHold}
@@ -30,7 +30,7 @@ use Rattle.answer.specs.Answers.{padded}
 use Rattle.sayfudhoum.specs.Models.{modelShown}
 
 -- an entry past the numbers is 0, as an entry past the array
-zeros : (n i : ℕ) → getD (replicate n 0) i 0 ≡ 0
+zeros : (n i : ℕ) → _≡_ {A = ℕ} (getD (replicate n 0) i 0) 0
 zeros zero i = refl
 zeros (suc n) zero = refl
 zeros (suc n) (suc i) = zeros n i
@@ -42,7 +42,7 @@ behind (x ∷ l) n (suc i) = behind l n i
 
 entry : (l : List ℕ) (i : ℕ) → getD (padded l) i 0 ≡ getD l i 0
 unfolding padded
-entry l i = behind l _ i
+entry l i = behind l (maxTerms - length l) i
 
 module _ (q : Question) (accepted : IsAccepted q) (sol : Solution) (s : Solves q sol) where
   -- the class of a name, and the mask of a class
@@ -58,20 +58,24 @@ module _ (q : Question) (accepted : IsAccepted q) (sol : Solution) (s : Solves q
   unfolding modelShown
   size-shown = refl
 
+  few : modelShown sol .size ≤ maxTerms
+  few = omega (arith, size-shown, classes-few 0 (sol .arrangement) (s .arranged), s .each-term, accepted .few-terms)
+
+  elements : T (elementsInside (q .elements) (modelShown sol))
+  unfolding elementsInside
+  elements =
+      everywhere-of (q .elements) (λ a. ltb (getD (modelShown sol .elements) a 0) (modelShown sol .size))
+      (λ a lt. lt→ltb (getD (modelShown sol .elements) a 0) (modelShown sol .size) (omega (arith, class-shown a lt, size-shown, model-assignment q accepted sol s .within (record { 0 = a }) lt)))
+
+  masks : T (masksInside (q .sets) (modelShown sol))
+  unfolding masksInside
+  masks =
+      everywhere-of (modelShown sol .size) (λ k. ltb (getD (modelShown sol .masks) k 0) (2 ^ q .sets))
+      (λ k lt. lt→ltb (getD (modelShown sol .masks) k 0) (2 ^ q .sets) (omega (arith, mask-shown k, s .masks-below k (omega (arith, size-shown)))))
+
   is-model : isModel (q .elements) (q .sets) (modelShown sol) ≡ true
-  unfolding isModel elementsInside masksInside
-  is-model = rw (le-leb (modelShown sol .size) maxTerms few, true-T _ elements, true-T _ masks)
-    where
-      few : modelShown sol .size ≤ maxTerms
-      few = omega (arith, size-shown, classes-few 0 (sol .arrangement) (s .arranged), s .each-term, accepted .few-terms)
-
-      elements : T (elementsInside (q .elements) (modelShown sol))
-      unfolding elementsInside
-      elements = everywhere-of (q .elements) _ (λ a lt. lt→ltb _ _ (omega (arith, class-shown a lt, size-shown, model-assignment q accepted sol s .within (record { 0 = a }) lt)))
-
-      masks : T (masksInside (q .sets) (modelShown sol))
-      unfolding masksInside
-      masks = everywhere-of (modelShown sol .size) _ (λ k lt. lt→ltb _ _ (omega (arith, mask-shown k, s .masks-below k (omega (arith, size-shown)))))
+  unfolding isModel
+  is-model = rw (le-leb (modelShown sol .size) maxTerms few, true-T (elementsInside (q .elements) (modelShown sol)) elements, true-T (masksInside (q .sets) (modelShown sol)) masks)
 
   all-hold : AllHold (assigned (modelShown sol)) (statements q)
   all-hold =

@@ -10,8 +10,6 @@ use search::SearchAnswer;
 use search::Verdict as Found;
 use search::search;
 ghost use mathlib.Core.Path.{_≡_};
-ghost use Rattle.question.specs.Checks.{IsAccepted};
-ghost use Rattle.reduction.specs.Reducing.{packedRows};
 ghost use Rattle.sayfudhoum.specs.Decisions.{undecided, shown, decided};
 
 pub enum DecisionCheck {

@@ -1,5 +1,5 @@
 -- `main` writes so many bytes of its buffer as the library put there.
-use mathlib.Core.Path.{_≡_, sym, _∙_}
+use mathlib.Core.Path.{sym, _∙_}
 use native.Mathlib.Omega.{arith}
 use borrow.Author.Needs.{needs}
 use Rattle.sayfudhoum.proofs.FileLaws.{response-within}

@@ -1,9 +1,6 @@
 -- `table` fills the table record by record.
 use Prim.Native.Nat.{_-_, _≤_}
-use mathlib.Core.Path.{_≡_}
-use native.Mathlib.Omega.{arith}
 use borrow.Author.Needs.{needs}
-use lib.ListN.{length}
 use Rattle.cases.proofs.tables.table.Statement.{statement}
 use Rattle.cases.proofs.tables.table.Tie as tie
 

@@ -5,7 +5,7 @@ use mathlib.Core.Bool.{cond}
 use native.Mathlib.Omega.{arith}
 use borrow.Author.Needs.{needs}
 use borrow.Author.Tests.{not-true, not-false}
-use lib.ListN.{length, getD}
+use lib.ListN.{length}
 use Rattle.question.specs.Questions.{idle}
 use Rattle.question.specs.Meaning.{holds}
 use Rattle.question.proofs.StatementsLaws.{table-long}

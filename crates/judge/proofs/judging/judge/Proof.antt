@@ -1,7 +1,6 @@
 -- `judge` passes the table's refusal on, and else judges the model: in each arm the result of the check is known.
 use mathlib.Core.Path.{sym, _∙_}
 use borrow.Author.Needs.{needs}
-use Rattle.question.specs.Checks.{checked}
 use Rattle.question.proofs.AcceptedLaws.{accepted}
 use Rattle.judge.specs.Judgements.{judged}
 use Rattle.judge.proofs.judging.judge.Statement.{statement}

@@ -3,7 +3,6 @@ use mathlib.Core.Path.{sym, ap, _∙_}
 use borrow.Author.Needs.{needs}
 use borrow.Author.Tests.{not-true, not-false}
 use Rattle.judge.specs.declared.judging.Judgement.the-variants.{Refused}
-use Rattle.judge.specs.Models.{isModel}
 use Rattle.judge.specs.Judgements.{modelJudged}
 use Rattle.judge.proofs.judging.judge_model.Statement.{statement}
 use Rattle.judge.proofs.judging.judge_model.Tie as tie

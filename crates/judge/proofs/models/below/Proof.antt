@@ -1,7 +1,5 @@
 -- `below` tests the bound by a shift; past the width every mask is below it.
-use Prim.Native.Nat.{_≤_, _<_, _^_}
 use mathlib.Core.Path.{sym}
-use native.Mathlib.Omega.{arith}
 use borrow.Author.Needs.{needs}
 use borrow.Author.Tests.{lt-ltb}
 use Rattle.judge.proofs.MaskLaws.{mask-below, below-shifts}

@@ -1,5 +1,4 @@
 -- `element` looks a name up in the table of eight; past the table the list gives 0 too.
-use Prim.Native.Nat.{ℕ}
 use mathlib.Core.Path.{_≡_, sym}
 use native.Mathlib.Omega.{arith}
 use borrow.Author.Needs.{needs}

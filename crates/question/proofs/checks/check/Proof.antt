@@ -1,7 +1,5 @@
 -- `check` refuses in document 01's order: each return rewrites with the tests that led there.
 use mathlib.Core.Path.{sym, ap, _∙_}
-use mathlib.Core.Bool.{_||_}
-use native.Mathlib.Omega.{arith}
 use borrow.Author.Needs.{needs}
 use borrow.Author.Tests.{lt-ltb, le-ltb}
 use Rattle.question.specs.declared.checks.TableCheck.the-variants.{Refused}

@@ -1,5 +1,5 @@
 -- `check_statements` walks the statements in order: the check of the whole is the check of what is left, at the index and the terms so far.
-use Prim.Native.Nat.{_+_, _-_, _≤_, _<_}
+use Prim.Native.Nat.{_+_, _-_, _≤_}
 use mathlib.Core.Path.{_≡_, refl, sym, ap, _∙_}
 use native.Mathlib.Omega.{arith}
 use borrow.Author.Needs.{needs}

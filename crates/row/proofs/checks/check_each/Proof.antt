@@ -1,13 +1,11 @@
 -- `check_each` walks the rows in order: the check of the whole is the check from the index on.
-use Prim.Native.Nat.{_+_, _-_, _≤_}
+use Prim.Native.Nat.{_-_, _≤_}
 use mathlib.Core.Path.{_≡_, refl, sym, ap, _∙_}
-use mathlib.Core.Bool.{cond}
 use native.Mathlib.Omega.{arith}
 use borrow.Author.Needs.{needs}
 use borrow.Author.Tests.{not-true, not-false}
-use lib.ListN.{length, getD}
+use lib.ListN.{length}
 use Rattle.question.specs.declared.checks.TableCheck.the-variants.{Refused}
-use Rattle.row.specs.Checks.{rowGood}
 use Rattle.row.proofs.CheckLaws.{checkFrom, turn, ended}
 use Rattle.row.proofs.checks.check_each.Statement.{statement}
 use Rattle.row.proofs.checks.check_each.Tie as tie

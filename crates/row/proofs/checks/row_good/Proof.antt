@@ -1,7 +1,6 @@
 -- `row_good` makes its tests in order: each return rewrites with the tests that led there.
-use Prim.Native.Nat.{_^_, _<_, _≤_}
-use mathlib.Core.Path.{_≡_, sym, ap, _∙_}
-use native.Mathlib.Omega.{arith}
+use Prim.Native.Nat.{_^_}
+use mathlib.Core.Path.{ap, _∙_}
 use borrow.Author.Needs.{needs}
 use borrow.Author.Tests.{lt-ltb, le-ltb}
 use Rattle.row.specs.Parts.{rowBits, partsOf}

@@ -1,6 +1,5 @@
 -- `part` shifts the number right and masks its lowest bits.
 use Prim.Native.Nat.{_/_, _%_, _^_, _<_}
-use native.Mathlib.Omega.{arith}
 use native.Mathlib.Nat.{mod-lt, lt-of-lt-of-le}
 use borrow.Author.Needs.{needs}
 use lib.Pow.{pow-pos, pow-mono}

@@ -1,5 +1,5 @@
 -- `refuse` puts the filler beside the refusal.
-use mathlib.Core.Path.{_≡_, refl}
+use mathlib.Core.Path.{refl}
 use Rattle.answer.specs.Answers.{padded}
 use Rattle.sayfudhoum.proofs.decisions.refuse.Statement.{statement}
 use Rattle.sayfudhoum.proofs.decisions.refuse.Tie as tie

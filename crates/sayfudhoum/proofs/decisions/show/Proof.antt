@@ -1,5 +1,5 @@
 -- `show` goes by the verdict of the search.
-use mathlib.Core.Path.{_≡_, sym, ap, _∙_}
+use mathlib.Core.Path.{sym, ap, _∙_}
 use borrow.Author.Needs.{needs}
 use Rattle.sayfudhoum.specs.Decisions.{decidedAs, shownAs, shown}
 use Rattle.sayfudhoum.proofs.decisions.show.Statement.{statement}

@@ -1,8 +1,6 @@
 -- `sayfudhoum_answer` is `answer_file`, with what it answers as a number.
-use denote.Ref.{now}
-use mathlib.Core.Path.{_≡_, sym, ap, subst, _∙_}
+use mathlib.Core.Path.{sym, ap, subst, _∙_}
 use borrow.Author.Needs.{needs}
-use lib.ListN.{length}
 use Rattle.sayfudhoum.specs.Numbers.{writtenNumber, answerNumber, IsShort}
 use Rattle.sayfudhoum.proofs.FileLaws.{answered-short}
 use Rattle.sayfudhoum.proofs.exports.sayfudhoum_answer.Statement.{statement}

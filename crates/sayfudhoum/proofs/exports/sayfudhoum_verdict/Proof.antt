@@ -1,5 +1,5 @@
 -- `sayfudhoum_verdict` is `decide_file`, with what it decides as a number.
-use mathlib.Core.Path.{_≡_, sym, ap, subst, _∙_}
+use mathlib.Core.Path.{sym, ap, subst, _∙_}
 use borrow.Author.Needs.{needs}
 use Rattle.sayfudhoum.specs.Numbers.{decisionNumber, verdictNumber, IsSmall}
 use Rattle.sayfudhoum.proofs.FileLaws.{decided-small}

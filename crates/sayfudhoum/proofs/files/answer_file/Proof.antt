@@ -1,6 +1,6 @@
 -- `answer_file` goes by what was read: a refusal is passed on, and an accepted question is answered.
 use denote.Ref.{now}
-use mathlib.Core.Path.{_≡_, sym, _∙_}
+use mathlib.Core.Path.{sym, _∙_}
 use borrow.Author.Needs.{needs}
 use lib.ListN.{length}
 use Rattle.sayfudhoum.proofs.FileLaws.{refused-answered, refused-over, question-checked, accepted-answered, accepted-over}

@@ -1,5 +1,5 @@
 -- `decide_file` goes by what was read: a refusal is passed on, and an accepted question is decided.
-use mathlib.Core.Path.{_≡_, sym, _∙_}
+use mathlib.Core.Path.{sym, _∙_}
 use borrow.Author.Needs.{needs}
 use Rattle.sayfudhoum.proofs.FileLaws.{refused-decided, accepted-decided}
 use Rattle.sayfudhoum.proofs.files.decide_file.Statement.{statement}

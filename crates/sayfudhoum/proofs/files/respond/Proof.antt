@@ -1,6 +1,6 @@
 -- `respond` goes by what was read: a refusal is reported, and an accepted question is answered.
 use denote.Ref.{now}
-use mathlib.Core.Path.{_≡_, sym, ap, _∙_}
+use mathlib.Core.Path.{sym, ap, _∙_}
 use borrow.Author.Needs.{needs}
 use lib.ListN.{length}
 use Rattle.answer.specs.Writes.{fitted, fittedOver}

@@ -1,10 +1,8 @@
 -- `outcome_number` goes by the outcome: what is told of its case is told of its number.
 use Prim.Native.Nat.{_*_}
-use mathlib.Core.Path.{_≡_, sym, ap, _∙_}
+use mathlib.Core.Path.{sym, ap, _∙_}
 use native.Mathlib.Omega.{arith}
 use borrow.Author.Needs.{needs}
-use Rattle.answer.specs.declared.answers.Verdict.{Verdict}
-use Rattle.answer.specs.declared.answers.Verdict.the-variants.{Possible, Impossible}
 use Rattle.answer.specs.Bytes.{verdictByte}
 use Rattle.sayfudhoum.specs.Numbers.{outcomeNumber}
 use Rattle.sayfudhoum.proofs.NumberLaws.{verdict-small, outcome-place}

@@ -1,5 +1,5 @@
 -- `written_number` goes by what the writer answered.
-use mathlib.Core.Path.{_≡_, sym, ap, _∙_}
+use mathlib.Core.Path.{sym, ap, _∙_}
 use native.Mathlib.Omega.{arith}
 use borrow.Author.Needs.{needs}
 use Rattle.sayfudhoum.specs.Numbers.{writtenNumber}
