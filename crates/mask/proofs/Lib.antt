@@ -4,6 +4,7 @@ pub mod RaisedLaws
 pub mod ReasonLaws
 pub mod BitLaws
 pub mod RowLaws
+pub mod EntryLaws
 pub mod BlameLaws
 pub mod TrialLaws
 pub mod LeastLaws

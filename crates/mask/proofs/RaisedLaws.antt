@@ -15,7 +15,7 @@ digit-lt b m x h = mod-lt (m / b ^ x) h
 digit-zero : (b m : ℕ) → digit b m 0 ≡ m % b
 digit-zero b m = rw (pow-zero, div-one)
 
-digit-suc : (b m x : ℕ) → digit b m (suc x) ≡ digit b (m / b) x
+pub digit-suc : (b m x : ℕ) → digit b m (suc x) ≡ digit b (m / b) x
 digit-suc b m x = rw (pow-succ', ← (div-div-eq-div-mul m b (b ^ x)))
 
 pub digit-of-zero : (b x : ℕ) → digit b 0 x ≡ 0

@@ -1,5 +1,5 @@
 -- Rows by their numbers: their places, and the test of a kind that document 01 does not list.
-use Prim.Native.Nat.{ℕ, zero, suc, _≤_, _<_}
+use Prim.Native.Nat.{ℕ, zero, suc, _≤_}
 use mathlib.Core.Path.{_≡_}
 use mathlib.Core.Logic.{_≢_}
 use mathlib.Core.List.{[], _∷_}
@@ -10,14 +10,10 @@ use Rattle.row.specs.Parts.{partsOf}
 use Rattle.row.specs.Rows.{testOf}
 use Rattle.mask.specs.Tests.{PlacesAreBits}
 
--- the parts of any number have places that are bits, and a term that is
+-- the parts of any number have places that are bits
 pub places-are-bits : (n : ℕ) → PlacesAreBits (partsOf n)
 unfolding partsOf
 places-are-bits n = record { first = omega arith; second = omega arith; third = omega arith }
-
-pub term-is-bit : (n : ℕ) → partsOf n .term < 32
-unfolding partsOf
-term-is-bit n = omega arith
 
 -- k is none of 0, .. , n - 1, as a `match` on k leaves it to its last arm: so k is at least n
 abbrev NoneOf : ℕ → ℕ → Type 0

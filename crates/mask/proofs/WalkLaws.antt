@@ -1,56 +1,64 @@
--- A mask put to the rows in order: what one turn of the walk does, how it ends, and which masks fail where one fails.
+-- A mask put to the entries in order: what one turn of the walk does, how it ends, and which masks fail where one fails.
 use Prim.Native.Nat.{ℕ, zero, suc, _+_, _≤_, _<_}
-use mathlib.Core.Path.{_≡_, refl, ap}
+use mathlib.Core.Path.{_≡_, refl, sym, ap, _∙_}
+use mathlib.Core.Logic.{_≢_}
 use mathlib.Core.Bool.{Bool, true, false, not, _&&_, _||_, true≢false}
-use mathlib.Core.List.{List, [], _∷_, map}
+use mathlib.Core.List.{List, [], _∷_}
 use native.Mathlib.Omega.{arith}
 use native.Mathlib.Numerals.{add-one}
+use native.Mathlib.Decide.{ℕ-discrete}
+use lib.Bits.{bitAnd}
 use lib.ListN.{length, getD, drop, drop-of-length-le}
 use lib.Seq.{drop-cons}
 use Rattle.question.specs.Masks.{bit}
 use Rattle.theory.specs.Rules.{Row}
 use Rattle.theory.specs.Sets.{Test, fits}
 use Rattle.theory.specs.Solutions.{allRows}
-use Rattle.row.specs.Rows.{rowOf}
+use Rattle.theory.proofs.RuleLaws.{all-append}
 use Rattle.mask.specs.InForce.{otherPlaced, meetsInForce}
+use Rattle.mask.specs.Entries.{testIn, termsIn, rowsOfEntry, rowsOfEntries}
 use Rattle.mask.specs.Reasons.{Agrees}
 use Rattle.mask.specs.Blames.{blamed}
 use Rattle.mask.specs.Trials.{IsDecided}
 use Rattle.mask.proofs.BlameLaws.{blamed-decides}
+use Rattle.mask.proofs.EntryLaws.{entry-apart, entry-meets}
 use Rattle.mask.proofs.LeastLaws.{meetsAll}
 
--- one row that fails
-one-fails : (f : Row Test → Bool) (rows : List ℕ) (i : ℕ) → i < length rows → f (rowOf (getD rows i 0)) ≡ false → allRows f (map rowOf rows) ≡ false
+-- one entry that fails
+one-fails : (f : Row Test → Bool) (entries : List ℕ) (i : ℕ) → i < length entries → allRows f (rowsOfEntry (getD entries i 0)) ≡ false → allRows f (rowsOfEntries entries) ≡ false
 one-fails f [] i h e = absurd (omega arith)
-one-fails f (r ∷ rows) zero h e = ap (λ b. b && allRows f (map rowOf rows)) e
-one-fails f (r ∷ rows) (suc i) h e = go (f (rowOf r)) (one-fails f rows i (omega arith) e)
+one-fails f (r ∷ rs) zero h e = all-append f (rowsOfEntry r) (rowsOfEntries rs) ∙ ap (λ b. b && allRows f (rowsOfEntries rs)) e
+one-fails f (r ∷ rs) (suc i) h e = all-append f (rowsOfEntry r) (rowsOfEntries rs) ∙ go (allRows f (rowsOfEntry r)) (one-fails f rs i (omega arith) e)
   where
-    go : (b : Bool) → allRows f (map rowOf rows) ≡ false → (b && allRows f (map rowOf rows)) ≡ false
+    go : (b : Bool) → allRows f (rowsOfEntries rs) ≡ false → (b && allRows f (rowsOfEntries rs)) ≡ false
     go true p = p
     go false p = refl
 
 module _ (class n : ℕ) where
-  -- a mask that agrees on the blamed bits with one that fails a row in force fails it too
-  row-decided : (m w : ℕ) (r : Row Test) → meetsInForce class n m r ≡ false → Agrees 2 0 (bit (blamed m (r .test))) m w → meetsInForce class n w r ≡ false
-  row-decided m w r e a = go (not (bit class (r .term))) (not (otherPlaced n (r .test))) e
+  -- a mask that agrees on the blamed bits with one that fails the rows of an entry fails them too
+  entry-decided : (m w e : ℕ) → allRows (meetsInForce class n m) (rowsOfEntry e) ≡ false → Agrees 2 0 (bit (blamed m (testIn e))) m w → allRows (meetsInForce class n w) (rowsOfEntry e) ≡ false
+  entry-decided m w e h a = go (ℕ-discrete (bitAnd (termsIn e) class) 0)
     where
-      go : (other later : Bool) → (other || (later || fits m (bit class) (r .test))) ≡ false → (other || (later || fits w (bit class) (r .test))) ≡ false
-      go true later h = absurd (true≢false h)
-      go false true h = absurd (true≢false h)
-      go false false h = blamed-decides m (r .test) (bit class) h w a
+      test-decided : (later : Bool) → (later || fits m (bit class) (testIn e)) ≡ false → (later || fits w (bit class) (testIn e)) ≡ false
+      test-decided true p = absurd (true≢false p)
+      test-decided false p = blamed-decides m (testIn e) (bit class) p w a
 
-  module _ (rows : List ℕ) where
+      go : Dec (bitAnd (termsIn e) class ≡ 0) → allRows (meetsInForce class n w) (rowsOfEntry e) ≡ false
+      go (yes z) = absurd (true≢false (sym (entry-apart class n m e z) ∙ h))
+      go (no ne) = entry-meets class n w e ne ∙ test-decided (not (otherPlaced n (testIn e))) (sym (entry-meets class n m e ne) ∙ h)
+
+  module _ (entries : List ℕ) where
     -- the walk from the index i on
     abbrev pub meetsFrom : ℕ → ℕ → Bool
-    meetsFrom m i = allRows (meetsInForce class n m) (map rowOf (drop i rows))
+    meetsFrom m i = allRows (meetsInForce class n m) (rowsOfEntries (drop i entries))
 
-    pub walk-turn : (m i : ℕ) → i < length rows → meetsFrom m i ≡ (meetsInForce class n m (rowOf (getD rows i 0)) && meetsFrom m (i + 1))
-    walk-turn m i h = rw (drop-cons rows i 0 h, add-one)
+    pub walk-turn : (m i : ℕ) → i < length entries → meetsFrom m i ≡ (allRows (meetsInForce class n m) (rowsOfEntry (getD entries i 0)) && meetsFrom m (i + 1))
+    walk-turn m i h = rw (drop-cons entries i 0 h, add-one) (all-append (meetsInForce class n m) (rowsOfEntry (getD entries i 0)) (rowsOfEntries (drop (suc i) entries)))
 
-    pub walk-end : (m i : ℕ) → length rows ≤ i → meetsFrom m i ≡ true
-    walk-end m i h = rw (drop-of-length-le rows h)
+    pub walk-end : (m i : ℕ) → length entries ≤ i → meetsFrom m i ≡ true
+    walk-end m i h = rw (drop-of-length-le entries h)
 
-    -- the row at i decides
-    pub walk-decided : (m i : ℕ) → i < length rows → meetsInForce class n m (rowOf (getD rows i 0)) ≡ false →
-        IsDecided (meetsAll (map rowOf rows) class n) (blamed m (rowOf (getD rows i 0) .test)) m
-    walk-decided m i h e w a = one-fails (meetsInForce class n w) rows i h (row-decided m w (rowOf (getD rows i 0)) e a)
+    -- the entry at i decides
+    pub walk-decided : (m i : ℕ) → i < length entries → allRows (meetsInForce class n m) (rowsOfEntry (getD entries i 0)) ≡ false →
+        IsDecided (meetsAll (rowsOfEntries entries) class n) (blamed m (testIn (getD entries i 0))) m
+    walk-decided m i h e w a = one-fails (meetsInForce class n w) entries i h (entry-decided m w (getD entries i 0) e a)

@@ -1,13 +1,13 @@
-// The smallest mask of a class of terms: a loop over the masks worth a trial, each put to the rows in order.
+// The smallest mask of a class of terms: a loop over the masks worth a trial, each put to the entries in order.
 use crate::blames::blame;
+use crate::entries::row_in;
 use crate::tests::meets;
 use crate::trials::Trial;
 use crate::trials::next_mask;
 ghost use mathlib.Core.Path.{_≡_};
-ghost use mathlib.Core.List.{map};
 ghost use Prim.Native.Nat.{_^_, min};
-ghost use Rattle.row.specs.Rows.{rowOf};
 ghost use Rattle.mask.specs.InForce.{leastMask};
+ghost use Rattle.mask.specs.Entries.{rowsOfEntries};
 ghost use Rattle.mask.specs.Masks.{smallestOf};
 
 pub enum Smallest {
@@ -23,22 +23,22 @@ fn width(sets: u8) -> u8
 }
 
 // The smallest mask of the class (a set of terms) under the rows in force, where the first `placed` terms are placed; a mask has at most 32 bits.
-// Masks are tried upward. The first row that a mask fails says which bits are to blame, and masks that would fail for the same reason are left out.
-pub fn smallest_mask(rows: &[u32], class: u32, placed: u32, sets: u8) -> Smallest
-    ensures { λ r. ⌜ r ≡ smallestOf (leastMask (2 ^ min sets 32) (map rowOf (now (rows .entry))) class placed) ⌝ }
+// Masks are tried upward. The first entry that a mask fails says which bits are to blame, and masks that would fail for the same reason are left out.
+pub fn smallest_mask(entries: &[u64], class: u32, placed: u32, sets: u8) -> Smallest
+    ensures { λ r. ⌜ r ≡ smallestOf (leastMask (2 ^ min sets 32) (rowsOfEntries (now (entries .entry))) class placed) ⌝ }
 {
     let bits = width(sets);
     let mut m: u32 = 0;
     let mut why = [0u32; 32];
     'masks: loop {
         let mut i: usize = 0;
-        let decided = 'rows: loop {
-            if i >= rows.len() {
+        let decided = 'entries: loop {
+            if i >= entries.len() {
                 break 'masks Smallest::At(m);
             }
-            let row = rows[i];
-            if !meets(row, class, placed, m) {
-                break 'rows blame(row, m);
+            let entry = entries[i];
+            if !meets(entry, class, placed, m) {
+                break 'entries blame(row_in(entry), m);
             }
             i += 1;
         };

@@ -1,10 +1,14 @@
-// Does a mask meet a row, as far as the row is in force.
+// Does a mask meet the rows of an entry, as far as they are in force.
 use crate::bits::bit;
+use crate::entries::row_in;
+use crate::entries::terms_in;
 use row::RowParts;
 use row::unpack;
 ghost use mathlib.Core.Path.{_≡_};
-ghost use Rattle.row.specs.Rows.{rowOfParts, rowOf};
+ghost use Rattle.theory.specs.Solutions.{allRows};
+ghost use Rattle.row.specs.Rows.{rowOfParts};
 ghost use Rattle.mask.specs.InForce.{meetsInForce};
+ghost use Rattle.mask.specs.Entries.{rowsOfEntry};
 ghost use Rattle.mask.specs.Tests.{passesInForce, PlacesAreBits};
 
 // Does a class with the mask m pass the row's test. One that names another term, which is not among the first `placed`, is passed over.
@@ -36,13 +40,12 @@ fn passes(p: RowParts, class: u32, placed: u32, m: u32) -> bool
     }
 }
 
-// Does the mask m of a class meet the row. A row whose term is not in the class is passed over.
-pub(crate) fn meets(row: u32, class: u32, placed: u32, m: u32) -> bool
-    ensures { λ r. ⌜ r ≡ meetsInForce class placed m (rowOf row) ⌝ }
+// Does the mask m of a class meet the rows of the entry. If none of their terms is in the class, they are passed over; else one test is that of all.
+pub(crate) fn meets(entry: u64, class: u32, placed: u32, m: u32) -> bool
+    ensures { λ r. ⌜ r ≡ allRows (meetsInForce class placed m) (rowsOfEntry entry) ⌝ }
 {
-    let p = unpack(row);
-    if !bit(class, p.term) {
+    if terms_in(entry) & class == 0 {
         return true;
     }
-    passes(p, class, placed, m)
+    passes(unpack(row_in(entry)), class, placed, m)
 }

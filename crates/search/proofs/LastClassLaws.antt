@@ -2,7 +2,7 @@
 use Prim.Native.Nat.{ℕ, suc, _+_, _-_, _^_, _<_}
 use mathlib.Core.Path.{_≡_, refl, sym, ap, subst, _∙_}
 use mathlib.Core.Bool.{Bool, true, not}
-use mathlib.Core.List.{List, [], _∷_, _++_, map}
+use mathlib.Core.List.{List, [], _∷_, _++_}
 use mathlib.Core.Logic.{inl}
 use mathlib.Core.Option.{none}
 use native.Mathlib.Omega.{arith}
@@ -12,7 +12,7 @@ use lib.ListN.{length, getD, take}
 use lib.Seq.{take-suc, length-take-le, getD-take}
 use Rattle.theory.specs.Arrangements.{classes}
 use Rattle.theory.proofs.ArrangementLaws.{class-below}
-use Rattle.row.specs.Rows.{rowOf}
+use Rattle.mask.specs.Entries.{rowsOfEntries}
 use Rattle.cut.specs.Members.{members}
 use Rattle.cut.proofs.MembersLaws.{members-below, members-last}
 use Rattle.cut.proofs.CutLaws.{class-cut}
@@ -49,7 +49,7 @@ module _ {arrangement : List ℕ} {placed used : ℕ} (here : Placing arrangemen
         let with-last : class ≡ members before-last k + 2 ^ (placed - 1) = is ∙ ap (λ q. members q k) last-split ∙ members-last k before-last ∙ ap (λ n. members before-last k + 2 ^ n) before-length in
         inl (refl, members-few here k class is, omega (arith, with-last, pow-suc 2 (placed - 1), ap (λ n. 2 ^ n) e), omega (arith, is, members-below k p, ap (λ n. 2 ^ n) (placed-length here)))
 
-    pub last-cut : (rows : List ℕ) (sets : ℕ) (has : Bool) → has ≡ isThere (maskOfClass rows sets class placed) → not has ≡ true → (left : ℕ) → found rows sets arrangement placed left ≡ none
-    last-cut rows sets has told fails left = class-cut (2 ^ sets) (map rowOf rows) p left k
+    pub last-cut : (entries : List ℕ) (sets : ℕ) (has : Bool) → has ≡ isThere (maskOfClass entries sets class placed) → not has ≡ true → (left : ℕ) → found entries sets arrangement placed left ≡ none
+    last-cut entries sets has told fails left = class-cut (2 ^ sets) (rowsOfEntries entries) p left k
         (subst (λ j. j < classes p) (getD-take placed arrangement (placed - 1) 0 (omega arith)) (class-below 0 p (placed - 1) (omega (arith, placed-length here))))
-        (cc (not-there (maskOfClass rows sets class placed) (sym told ∙ not-true has fails), placed-length here))
+        (cc (not-there (maskOfClass entries sets class placed) (sym told ∙ not-true has fails), placed-length here))

@@ -1,7 +1,7 @@
 -- All terms are placed: the masks of the classes one after another, as far as they go.
 use Prim.Native.Nat.{ℕ, _+_, _^_, _≤_, _<_}
 use mathlib.Core.Path.{_≡_, refl, sym, ap, subst, _∙_}
-use mathlib.Core.List.{List, map}
+use mathlib.Core.List.{List}
 use mathlib.Core.Option.{Option, none, some, Option·map, Option·none-ne-some, Option·some-ne-none, Option·some-injective}
 use native.Mathlib.Omega.{arith}
 use native.Mathlib.Decide.{decLt}
@@ -17,7 +17,7 @@ use Rattle.theory.specs.Sets.{fits, rowDeclared}
 use Rattle.theory.proofs.SearchLaws.{EachIs, eachFrom-is}
 use Rattle.theory.proofs.RowListLaws.{declared-below}
 use Rattle.theory.proofs.RuleLaws.{TermsBelow}
-use Rattle.row.specs.Rows.{rowOf}
+use Rattle.mask.specs.Entries.{rowsOfEntries}
 use Rattle.cut.specs.Members.{members}
 use Rattle.cut.specs.Others.{othersPlaced}
 use Rattle.cut.proofs.InForceLaws.{declared-others}
@@ -48,51 +48,51 @@ module _ (n : ℕ) (test : ℕ → Option ℕ) where
 
 -- the smallest mask of each class of the arrangement l
 abbrev smallest : List ℕ → ℕ → List ℕ → ℕ → Option ℕ
-smallest rows sets l = smallestMask fits (2 ^ sets) (map rowOf rows) l
+smallest entries sets l = smallestMask fits (2 ^ sets) (rowsOfEntries entries) l
 
 -- the masks of its first k classes
 abbrev pub MasksTo : List ℕ → ℕ → List ℕ → ℕ → List ℕ → Type 0
-MasksTo rows sets l k masks = (i : ℕ) → i < k → smallest rows sets l i ≡ some (getD masks i 0)
+MasksTo entries sets l k masks = (i : ℕ) → i < k → smallest entries sets l i ≡ some (getD masks i 0)
 
-pub no-masks-yet : (rows : List ℕ) (sets : ℕ) (l masks : List ℕ) → MasksTo rows sets l 0 masks
-no-masks-yet rows sets l masks i lt = absurd (omega arith)
+pub no-masks-yet : (entries : List ℕ) (sets : ℕ) (l masks : List ℕ) → MasksTo entries sets l 0 masks
+no-masks-yet entries sets l masks i lt = absurd (omega arith)
 
-module _ (rows : List ℕ) (sets : ℕ) (arrangement : List ℕ) (terms used : ℕ) (here : Placing arrangement terms used) (declared : T (allRows (rowDeclared terms sets) (map rowOf rows))) where
+module _ (entries : List ℕ) (sets : ℕ) (arrangement : List ℕ) (terms used : ℕ) (here : Placing arrangement terms used) (declared : T (allRows (rowDeclared terms sets) (rowsOfEntries entries))) where
   -- the arrangement
   abbrev l : List ℕ
   l = take terms arrangement
 
-  smallest-is : (k : ℕ) → smallest rows sets l k ≡ maskOfClass rows sets (members l k) terms
-  smallest-is k = mask-whole l k (2 ^ sets) (map rowOf rows) (subst (λ n. TermsBelow n (map rowOf rows)) (sym (placed-length here)) (declared-below terms sets (map rowOf rows) declared))
-      (subst (λ n. T (othersPlaced n (map rowOf rows))) (sym (placed-length here)) (declared-others terms sets (map rowOf rows) declared))
-      ∙ ap (maskOfClass rows sets (members l k)) (placed-length here)
+  smallest-is : (k : ℕ) → smallest entries sets l k ≡ maskOfClass entries sets (members l k) terms
+  smallest-is k = mask-whole l k (2 ^ sets) (rowsOfEntries entries) (subst (λ n. TermsBelow n (rowsOfEntries entries)) (sym (placed-length here)) (declared-below terms sets (rowsOfEntries entries) declared))
+      (subst (λ n. T (othersPlaced n (rowsOfEntries entries))) (sym (placed-length here)) (declared-others terms sets (rowsOfEntries entries) declared))
+      ∙ ap (maskOfClass entries sets (members l k)) (placed-length here)
 
   module _ (k class : ℕ) (is : class ≡ members l k) where
     -- a class has none
-    pub leaf-none : (r : SearchAnswer) → k < used → maskOfClass rows sets class terms ≡ none → r ≡ withoutModel Impossible → r ≡ answerOf (modelOf fits (2 ^ sets) (map rowOf rows) l)
+    pub leaf-none : (r : SearchAnswer) → k < used → maskOfClass entries sets class terms ≡ none → r ≡ withoutModel Impossible → r ≡ answerOf (modelOf fits (2 ^ sets) (rowsOfEntries entries) l)
     unfolding modelOf answerOf
-    leaf-none r lt e i = i ∙ ap (λ o. answerOf (Option·map (withMasks l) o)) (sym (each-none (classes l) (smallest rows sets l) k (omega (arith, here .counted)) (smallest-is k ∙ ap (λ c. maskOfClass rows sets c terms) (sym is) ∙ e)))
+    leaf-none r lt e i = i ∙ ap (λ o. answerOf (Option·map (withMasks l) o)) (sym (each-none (classes l) (smallest entries sets l) k (omega (arith, here .counted)) (smallest-is k ∙ ap (λ c. maskOfClass entries sets c terms) (sym is) ∙ e)))
 
     -- one mask more
-    pub leaf-more : (masks : List ℕ) (m : ℕ) → k < length masks → maskOfClass rows sets class terms ≡ some m → MasksTo rows sets l k masks → MasksTo rows sets l (k + 1) (set masks k m)
+    pub leaf-more : (masks : List ℕ) (m : ℕ) → k < length masks → maskOfClass entries sets class terms ≡ some m → MasksTo entries sets l k masks → MasksTo entries sets l (k + 1) (set masks k m)
     leaf-more masks m lt e before i h = go (decLt i k)
       where
-        go : Dec (i < k) → smallest rows sets l i ≡ some (getD (set masks k m) i 0)
+        go : Dec (i < k) → smallest entries sets l i ≡ some (getD (set masks k m) i 0)
         go (yes p) = before i p ∙ ap (λ (x : ℕ). some x) (sym (getD-set-other masks k i m 0 (λ q. omega arith)))
         go (no p) = let q : i ≡ k = omega arith in
-            ap (smallest rows sets l) q ∙ smallest-is k ∙ ap (λ c. maskOfClass rows sets c terms) (sym is) ∙ e ∙ ap (λ (x : ℕ). some x) (sym (ap (λ j. getD (set masks k m) j 0) q ∙ getD-set-same masks k m 0 lt))
+            ap (smallest entries sets l) q ∙ smallest-is k ∙ ap (λ c. maskOfClass entries sets c terms) (sym is) ∙ e ∙ ap (λ (x : ℕ). some x) (sym (ap (λ j. getD (set masks k m) j 0) q ∙ getD-set-same masks k m 0 lt))
 
   -- every class has one
-  pub leaf-all : (masks : List ℕ) (r : SearchAnswer) → length masks ≡ maxTerms → RestZero used masks → MasksTo rows sets l used masks →
-      r ≡ record { verdict = Possible; classes = used; arrangement = arrangement; masks = masks } → r ≡ answerOf (modelOf fits (2 ^ sets) (map rowOf rows) l)
+  pub leaf-all : (masks : List ℕ) (r : SearchAnswer) → length masks ≡ maxTerms → RestZero used masks → MasksTo entries sets l used masks →
+      r ≡ record { verdict = Possible; classes = used; arrangement = arrangement; masks = masks } → r ≡ answerOf (modelOf fits (2 ^ sets) (rowsOfEntries entries) l)
   unfolding modelOf answerOf
   leaf-all masks r long zero-rest each i = i ∙ shown ∙ ap (λ o. answerOf (Option·map (withMasks l) o)) (sym all)
     where
       few : used ≤ maxTerms
       few = omega (arith, here .few-classes, here .few-terms)
 
-      all : eachFrom (classes l) 0 (smallest rows sets l) ≡ some (take used masks)
-      all = each-some (classes l) (smallest rows sets l) (take used masks) (length-take-le used masks (omega arith) ∙ here .counted)
+      all : eachFrom (classes l) 0 (smallest entries sets l) ≡ some (take used masks)
+      all = each-some (classes l) (smallest entries sets l) (take used masks) (length-take-le used masks (omega arith) ∙ here .counted)
           (λ k lt. let inside : k < used = omega (arith, here .counted) in each k inside ∙ ap (λ (x : ℕ). some x) (sym (getD-take used masks k 0 inside)))
 
       shown : record { verdict = Possible; classes = used; arrangement = arrangement; masks = masks } ≡ answerOf (some (withMasks l (take used masks)))

@@ -1,4 +1,7 @@
 -- Laws that belong to no one function.
+pub mod EntryLaws
+pub mod InsertLaws
+pub mod GatherLaws
 pub mod PlacingLaws
 pub mod MemoLaws
 pub mod SmallestLaws

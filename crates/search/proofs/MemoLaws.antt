@@ -57,12 +57,12 @@ members-few {arrangement} {placed} {used} here k class is =
 pub place-of-all : (class : ℕ) → class < classCount → NotedAt (class + classCount) class maxTerms
 place-of-all class h = inr (refl, h, refl)
 
-module _ (rows : List ℕ) (sets : ℕ) where
+module _ (entries : List ℕ) (sets : ℕ) where
   -- nothing noted
   abbrev pub blank : List ℕ
   blank = replicate (classCount + classCount) 0
 
-  pub memo-start : Memo rows sets blank
+  pub memo-start : Memo entries sets blank
   memo-start = record { long = blank-long; right = λ at class n q z. absurd (z (zero-at at (decLt at (classCount + classCount)))) }
     where
       blank-long : length blank ≡ classCount + classCount
@@ -72,17 +72,17 @@ module _ (rows : List ℕ) (sets : ℕ) where
       zero-at at (yes h) = getD-replicate (classCount + classCount) at 0 0 h
       zero-at at (no h) = List·getD-eq-default blank 0 {n = at} (omega (arith, blank-long))
 
-  module _ (memo : List ℕ) (at class n : ℕ) (good : Memo rows sets memo) (place : NotedAt at class n) where
-    pub memo-read : getD memo at 0 ≢ 0 → eqb (getD memo at 0) 2 ≡ isThere (maskOfClass rows sets class n)
-    memo-read z = ap (λ v. eqb v 2) (good .right at class n place z) ∙ noted-there (maskOfClass rows sets class n)
+  module _ (memo : List ℕ) (at class n : ℕ) (good : Memo entries sets memo) (place : NotedAt at class n) where
+    pub memo-read : getD memo at 0 ≢ 0 → eqb (getD memo at 0) 2 ≡ isThere (maskOfClass entries sets class n)
+    memo-read z = ap (λ v. eqb v 2) (good .right at class n place z) ∙ noted-there (maskOfClass entries sets class n)
 
-    pub memo-note : (v : ℕ) → v ≡ noted (maskOfClass rows sets class n) → Memo rows sets (set memo at v)
+    pub memo-note : (v : ℕ) → v ≡ noted (maskOfClass entries sets class n) → Memo entries sets (set memo at v)
     memo-note v e = record { long = length-set memo at v ∙ good .long; right = λ i other m q z. go i other m q z (ℕ-discrete i at) }
       where
         new : List ℕ
         new = set memo at v
 
-        go : (i other m : ℕ) → NotedAt i other m → getD new i 0 ≢ 0 → Dec (i ≡ at) → getD new i 0 ≡ noted (maskOfClass rows sets other m)
+        go : (i other m : ℕ) → NotedAt i other m → getD new i 0 ≢ 0 → Dec (i ≡ at) → getD new i 0 ≡ noted (maskOfClass entries sets other m)
         go i other m q z (yes here) =
             let same = one-question at class n other m place (subst (λ j. NotedAt j other m) here q) in
             ap (λ j. getD new j 0) here ∙ getD-set-same memo at v 0 (omega (arith, good .long, place-below at class n place)) ∙ e ∙ cc

@@ -4,6 +4,7 @@ use mathlib.Core.Path.{_≡_, refl, sym, ap, _∙_}
 use mathlib.Core.List.{List, [], map}
 use mathlib.Core.Option.{Option, none, some}
 use native.Mathlib.Omega.{arith}
+use lib.ListN.{take}
 use Rattle.question.specs.declared.refusals.Refusal.{Refusal}
 use Rattle.question.specs.declared.checks.TableCheck.{TableCheck}
 use Rattle.question.specs.declared.checks.TableCheck.the-variants.{Accepted, Refused as RowsRefused}
@@ -14,14 +15,21 @@ use Rattle.theory.specs.Sets.{Test, fits}
 use Rattle.theory.proofs.RuleLaws.{TermsBelow}
 use Rattle.theory.proofs.FirstModelLaws.{firstModel-first, firstModel-none}
 use Rattle.theory.proofs.RowListLaws.{declared-below}
+use Rattle.theory.proofs.SameRowLaws.{firstModel-same}
 use Rattle.row.specs.Rows.{rowOf}
 use Rattle.row.specs.Checks.{rowsChecked}
 use Rattle.row.proofs.AcceptedRows.{rows-keep, all-declared}
+use Rattle.mask.specs.Entries.{rowsOfEntries}
 use Rattle.cut.proofs.BehindLaws.{behind-nothing}
 use Rattle.search.specs.declared.answers.Verdict.the-variants.{Possible, Impossible, Refused}
 use Rattle.search.specs.declared.answers.SearchAnswer.{SearchAnswer}
 use Rattle.search.specs.Answers.{padded, withoutModel, answerOf, acceptedThen, searched}
+use Rattle.search.specs.Entries.{Gathered}
 use Rattle.search.specs.Placings.{found}
+
+-- with no term placed, what is found is the first model
+pub answer-first : (terms sets : ℕ) (entries : List ℕ) (r : SearchAnswer) → r ≡ answerOf (found entries sets (padded []) 0 terms) → r ≡ answerOf (firstModel fits terms (2 ^ sets) (rowsOfEntries entries))
+answer-first terms sets entries r is = is ∙ ap answerOf (behind-nothing (2 ^ sets) (rowsOfEntries entries) terms)
 
 module _ (terms sets : ℕ) (rows : List ℕ) where
   -- the rows that the numbers say, and what is found: the first model of those
@@ -31,9 +39,9 @@ module _ (terms sets : ℕ) (rows : List ℕ) where
   abbrev first : Option Solution
   first = firstModel fits terms (2 ^ sets) said
 
-  -- with no term placed, what is found is the first model
-  pub answer-first : (r : SearchAnswer) → r ≡ answerOf (found rows sets (padded []) 0 terms) → r ≡ answerOf first
-  answer-first r is = is ∙ ap answerOf (behind-nothing (2 ^ sets) said terms)
+  -- entries that say the same rows have the same first model
+  pub answer-same : (count : ℕ) (table : List ℕ) → Gathered rows count table → (r : SearchAnswer) → r ≡ answerOf (firstModel fits terms (2 ^ sets) (rowsOfEntries (take count table))) → r ≡ answerOf first
+  answer-same count table all r is = is ∙ ap answerOf (firstModel-same fits (2 ^ sets) (rowsOfEntries (take count table)) said (all .says) terms)
 
   module _ (r : SearchAnswer) (check : TableCheck) (checked : check ≡ rowsChecked terms sets rows) where
     pub searched-accepted : check ≡ Accepted → r ≡ answerOf first → r ≡ searched terms sets rows

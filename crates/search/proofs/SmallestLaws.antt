@@ -1,11 +1,11 @@
 -- What `smallest_mask` gives is the mask of the class, where there are at most so many sets as a question may have.
 use Prim.Native.Nat.{ℕ, _^_, _≤_, min}
 use mathlib.Core.Path.{_≡_, refl, sym, ap, _∙_}
-use mathlib.Core.List.{List, map}
+use mathlib.Core.List.{List}
 use mathlib.Core.Option.{Option, none, some}
 use native.Mathlib.Omega.{arith}
 use Rattle.question.specs.Limits.{maxSets}
-use Rattle.row.specs.Rows.{rowOf}
+use Rattle.mask.specs.Entries.{rowsOfEntries}
 use Rattle.mask.specs.declared.masks.Smallest.{Smallest}
 use Rattle.mask.specs.declared.masks.Smallest.the-variants.{At, Nothing}
 use Rattle.mask.specs.InForce.{leastMask}
@@ -20,12 +20,12 @@ is-none : (o : Option ℕ) → Nothing ≡ smallestOf o → o ≡ none
 is-none none e = refl
 is-none (some n) e = let z : _≡_ {A = ℕ} 0 1 = cc in absurd (omega arith)
 
-module _ (rows : List ℕ) (sets class n : ℕ) (few : sets ≤ maxSets) (s : Smallest) (found : s ≡ smallestOf (leastMask (2 ^ min sets 32) (map rowOf rows) class n)) where
-  as-wide : s ≡ smallestOf (maskOfClass rows sets class n)
-  as-wide = let e : min sets 32 ≡ sets = omega arith in found ∙ ap (λ w. smallestOf (leastMask (2 ^ w) (map rowOf rows) class n)) e
+module _ (entries : List ℕ) (sets class n : ℕ) (few : sets ≤ maxSets) (s : Smallest) (found : s ≡ smallestOf (leastMask (2 ^ min sets 32) (rowsOfEntries entries) class n)) where
+  as-wide : s ≡ smallestOf (maskOfClass entries sets class n)
+  as-wide = let e : min sets 32 ≡ sets = omega arith in found ∙ ap (λ w. smallestOf (leastMask (2 ^ w) (rowsOfEntries entries) class n)) e
 
-  pub mask-is : (m : ℕ) → s ≡ At m → maskOfClass rows sets class n ≡ some m
-  mask-is m e = is-some (maskOfClass rows sets class n) m (sym e ∙ as-wide)
+  pub mask-is : (m : ℕ) → s ≡ At m → maskOfClass entries sets class n ≡ some m
+  mask-is m e = is-some (maskOfClass entries sets class n) m (sym e ∙ as-wide)
 
-  pub mask-lacks : s ≡ Nothing → maskOfClass rows sets class n ≡ none
-  mask-lacks e = is-none (maskOfClass rows sets class n) (sym e ∙ as-wide)
+  pub mask-lacks : s ≡ Nothing → maskOfClass entries sets class n ≡ none
+  mask-lacks e = is-none (maskOfClass entries sets class n) (sym e ∙ as-wide)

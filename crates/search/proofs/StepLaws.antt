@@ -2,7 +2,7 @@
 use Prim.Native.Nat.{ℕ, suc, _+_, _-_, _^_, _≤_, _<_}
 use mathlib.Core.Path.{_≡_, refl, sym, ap, _∙_}
 use mathlib.Core.Bool.{Bool, true, false, true≢false, false≢true}
-use mathlib.Core.List.{List, [], _∷_, _++_, map}
+use mathlib.Core.List.{List, [], _∷_, _++_}
 use mathlib.Core.Option.{Option, none, some}
 use native.Mathlib.Omega.{arith}
 use lib.ListN.{take, set}
@@ -12,7 +12,7 @@ use Rattle.theory.specs.Solutions.{Solution}
 use Rattle.theory.specs.FirstModels.{modelOf}
 use Rattle.theory.specs.Sets.{fits}
 use Rattle.theory.proofs.LoopLaws.{FromHere, loop-start, loop-miss, loop-hit, loop-end}
-use Rattle.row.specs.Rows.{rowOf}
+use Rattle.mask.specs.Entries.{rowsOfEntries}
 use Rattle.cut.specs.Behind.{foundBehind}
 use Rattle.cut.proofs.BehindLaws.{behind-all, behind-step}
 use Rattle.search.specs.declared.answers.Verdict.the-variants.{Impossible}
@@ -39,43 +39,43 @@ module _ (placed left : ℕ) (not-all : left ≡ 0 → ⊥) where
 pub none-left : (placed left : ℕ) → left ≡ 0 → placed + left ≡ placed
 none-left placed left e = omega arith
 
-module _ (rows : List ℕ) (sets : ℕ) (arrangement : List ℕ) (placed left used : ℕ) where
+module _ (entries : List ℕ) (sets : ℕ) (arrangement : List ℕ) (placed left used : ℕ) where
   -- what is found with the next term in the class c
   abbrev pub foundIn : ℕ → Option Solution
-  foundIn c = foundBehind (2 ^ sets) (map rowOf rows) (take placed arrangement ++ (c ∷ [])) (left - 1)
+  foundIn c = foundBehind (2 ^ sets) (rowsOfEntries entries) (take placed arrangement ++ (c ∷ [])) (left - 1)
 
   -- the loop stands before the class c: what is found is what is found from there on
   abbrev pub Before : ℕ → Type 0
-  Before c = FromHere (suc used) foundIn (found rows sets arrangement placed left) c
+  Before c = FromHere (suc used) foundIn (found entries sets arrangement placed left) c
 
   -- nothing is found
-  pub answer-none : (r : SearchAnswer) → r ≡ withoutModel Impossible → found rows sets arrangement placed left ≡ none → r ≡ answerOf (found rows sets arrangement placed left)
+  pub answer-none : (r : SearchAnswer) → r ≡ withoutModel Impossible → found entries sets arrangement placed left ≡ none → r ≡ answerOf (found entries sets arrangement placed left)
   unfolding answerOf
   answer-none r is e = is ∙ ap answerOf (sym e)
 
   -- no term is left: the model of the arrangement
-  pub answer-whole : (r : SearchAnswer) → left ≡ 0 → r ≡ answerOf (modelOf fits (2 ^ sets) (map rowOf rows) (take placed arrangement)) → r ≡ answerOf (found rows sets arrangement placed left)
-  answer-whole r e is = is ∙ ap answerOf (sym (ap (found rows sets arrangement placed) e ∙ behind-all (2 ^ sets) (map rowOf rows) (take placed arrangement)))
+  pub answer-whole : (r : SearchAnswer) → left ≡ 0 → r ≡ answerOf (modelOf fits (2 ^ sets) (rowsOfEntries entries) (take placed arrangement)) → r ≡ answerOf (found entries sets arrangement placed left)
+  answer-whole r e is = is ∙ ap answerOf (sym (ap (found entries sets arrangement placed) e ∙ behind-all (2 ^ sets) (rowsOfEntries entries) (take placed arrangement)))
 
   module _ (here : Placing arrangement placed used) where
     pub before-first : 0 < left → Before 0
     before-first more = let e : left ≡ suc (left - 1) = omega arith in
-        loop-start (suc used) foundIn (found rows sets arrangement placed left) (ap (found rows sets arrangement placed) e
-        ∙ behind-step (2 ^ sets) (map rowOf rows) (take placed arrangement) (left - 1) ∙ ap (λ u. firstFrom (suc u) 0 foundIn) (sym (here .counted)))
+        loop-start (suc used) foundIn (found entries sets arrangement placed left) (ap (found entries sets arrangement placed) e
+        ∙ behind-step (2 ^ sets) (rowsOfEntries entries) (take placed arrangement) (left - 1) ∙ ap (λ u. firstFrom (suc u) 0 foundIn) (sym (here .counted)))
 
     -- the call with the next term in the class c is about that
-    pub answer-next : (c : ℕ) (r : SearchAnswer) → placed < maxTerms → r ≡ answerOf (found rows sets (set arrangement placed c) (placed + 1) (left - 1)) → r ≡ answerOf (foundIn c)
-    answer-next c r room is = is ∙ ap (λ p. answerOf (foundBehind (2 ^ sets) (map rowOf rows) p (left - 1))) (next-taken here c room)
+    pub answer-next : (c : ℕ) (r : SearchAnswer) → placed < maxTerms → r ≡ answerOf (found entries sets (set arrangement placed c) (placed + 1) (left - 1)) → r ≡ answerOf (foundIn c)
+    answer-next c r room is = is ∙ ap (λ p. answerOf (foundBehind (2 ^ sets) (rowsOfEntries entries) p (left - 1))) (next-taken here c room)
 
   module _ (c : ℕ) (r : SearchAnswer) (allowed : c ≤ used) (is : r ≡ answerOf (foundIn c)) (before : Before c) (possible : Bool) (told : possible ≡ isPossible (r .verdict)) where
     -- it found a model
-    pub class-hit : possible ≡ true → r ≡ answerOf (found rows sets arrangement placed left)
+    pub class-hit : possible ≡ true → r ≡ answerOf (found entries sets arrangement placed left)
     unfolding answerOf
     class-hit v = go (foundIn c) refl
       where
-        go : (o : Option Solution) → foundIn c ≡ o → r ≡ answerOf (found rows sets arrangement placed left)
+        go : (o : Option Solution) → foundIn c ≡ o → r ≡ answerOf (found entries sets arrangement placed left)
         go none e = absurd (true≢false (sym v ∙ told ∙ ap (λ (a : SearchAnswer). isPossible (a .verdict)) (is ∙ ap answerOf e)))
-        go (some sol) e = is ∙ ap answerOf (e ∙ sym (loop-hit (suc used) foundIn (found rows sets arrangement placed left) c sol (omega arith) e before))
+        go (some sol) e = is ∙ ap answerOf (e ∙ sym (loop-hit (suc used) foundIn (found entries sets arrangement placed left) c sol (omega arith) e before))
 
     -- it found none
     pub class-miss : possible ≡ false → Before (c + 1)
@@ -83,9 +83,9 @@ module _ (rows : List ℕ) (sets : ℕ) (arrangement : List ℕ) (placed left us
     class-miss v = go (foundIn c) refl
       where
         go : (o : Option Solution) → foundIn c ≡ o → Before (c + 1)
-        go none e = loop-miss (suc used) foundIn (found rows sets arrangement placed left) c (omega arith) e before
+        go none e = loop-miss (suc used) foundIn (found entries sets arrangement placed left) c (omega arith) e before
         go (some sol) e = absurd (false≢true (sym v ∙ told ∙ ap (λ (a : SearchAnswer). isPossible (a .verdict)) (is ∙ ap answerOf e)))
 
   -- every class was tried
-  pub class-end : (c : ℕ) → used < c → Before c → found rows sets arrangement placed left ≡ none
-  class-end c past = loop-end (suc used) foundIn (found rows sets arrangement placed left) c past
+  pub class-end : (c : ℕ) → used < c → Before c → found entries sets arrangement placed left ≡ none
+  class-end c past = loop-end (suc used) foundIn (found entries sets arrangement placed left) c past

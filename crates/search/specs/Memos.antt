@@ -2,17 +2,17 @@
 use Prim.Native.Nat.{ℕ, _+_, _^_, _≤_, _<_}
 use mathlib.Core.Path.{_≡_}
 use mathlib.Core.Bool.{Bool, true, false}
-use mathlib.Core.List.{List, map}
+use mathlib.Core.List.{List}
 use mathlib.Core.Logic.{_≢_, _⊎_}
 use mathlib.Core.Option.{Option, none, some}
 use lib.ListN.{length, getD}
 use Rattle.question.specs.Limits.{maxTerms}
-use Rattle.row.specs.Rows.{rowOf}
+use Rattle.mask.specs.Entries.{rowsOfEntries}
 use Rattle.mask.specs.InForce.{leastMask}
 
 -- the smallest mask of a class, a set of terms, under the rows whose other term is among the first n
 abbrev pub maskOfClass : List ℕ → ℕ → ℕ → ℕ → Option ℕ
-maskOfClass rows sets class n = leastMask (2 ^ sets) (map rowOf rows) class n
+maskOfClass entries sets class n = leastMask (2 ^ sets) (rowsOfEntries entries) class n
 
 -- has it one
 abbrev pub isThere : Option ℕ → Bool
@@ -33,6 +33,6 @@ abbrev pub NotedAt : ℕ → ℕ → ℕ → Type 0
 NotedAt at class n = ((at ≡ class) × (class < classCount) × (2 ^ n ≤ class + class) × (class < 2 ^ n)) ⊎ ((at ≡ class + classCount) × (class < classCount) × (n ≡ maxTerms))
 
 -- what is noted is right
-pub record Memo (rows : List ℕ) (sets : ℕ) (memo : List ℕ) : Type 0 where
+pub record Memo (entries : List ℕ) (sets : ℕ) (memo : List ℕ) : Type 0 where
   pub long : length memo ≡ classCount + classCount
-  pub right : (at class n : ℕ) → NotedAt at class n → getD memo at 0 ≢ 0 → getD memo at 0 ≡ noted (maskOfClass rows sets class n)
+  pub right : (at class n : ℕ) → NotedAt at class n → getD memo at 0 ≢ 0 → getD memo at 0 ≡ noted (maskOfClass entries sets class n)

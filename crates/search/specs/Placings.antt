@@ -1,13 +1,13 @@
 -- Where the search stands: the first terms have their class numbers, the others are still to be placed.
 use Prim.Native.Nat.{ℕ, _-_, _^_, _≤_}
 use mathlib.Core.Path.{_≡_}
-use mathlib.Core.List.{List, map}
+use mathlib.Core.List.{List}
 use mathlib.Core.Option.{Option}
 use lib.ListN.{length, take, drop, replicate}
 use Rattle.question.specs.Limits.{maxTerms}
 use Rattle.theory.specs.Arrangements.{classes}
 use Rattle.theory.specs.Solutions.{Solution}
-use Rattle.row.specs.Rows.{rowOf}
+use Rattle.mask.specs.Entries.{rowsOfEntries}
 use Rattle.cut.specs.Behind.{foundBehind}
 
 -- the array has the class numbers of the terms placed, in `used` classes, and 0 past them
@@ -20,4 +20,4 @@ pub record Placing (arrangement : List ℕ) (placed used : ℕ) : Type 0 where
 
 -- what is found there with so many terms still to be placed: the first model among the arrangements that begin so
 abbrev pub found : List ℕ → ℕ → List ℕ → ℕ → ℕ → Option Solution
-found rows sets arrangement placed left = foundBehind (2 ^ sets) (map rowOf rows) (take placed arrangement) left
+found entries sets arrangement placed left = foundBehind (2 ^ sets) (rowsOfEntries entries) (take placed arrangement) left

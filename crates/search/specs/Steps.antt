@@ -6,7 +6,7 @@ use Rattle.search.specs.Placings.{Placing}
 use Rattle.search.specs.Memos.{Memo}
 
 -- the first terms are placed, what the memo notes is right, and masks are wide enough
-pub record Standing (rows : List ℕ) (sets : ℕ) (memo arrangement : List ℕ) (placed used : ℕ) : Type 0 where
+pub record Standing (entries : List ℕ) (sets : ℕ) (memo arrangement : List ℕ) (placed used : ℕ) : Type 0 where
   pub few-sets : sets ≤ maxSets
-  pub remembered : Memo rows sets memo
+  pub remembered : Memo entries sets memo
   pub placing : Placing arrangement placed used

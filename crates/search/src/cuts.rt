@@ -4,12 +4,11 @@ use crate::memos::has_mask;
 use crate::memos::has_mask_at_all;
 ghost use mathlib.Core.Path.{_≡_};
 ghost use mathlib.Core.Bool.{true};
-ghost use mathlib.Core.List.{map};
 ghost use mathlib.Core.Option.{none};
 ghost use Prim.Native.Nat.{ℕ, _+_, _^_, _≤_, _<_};
 ghost use lib.Dec.{T};
 ghost use Rattle.question.specs.Limits.{maxTerms};
-ghost use Rattle.row.specs.Rows.{rowOf};
+ghost use Rattle.mask.specs.Entries.{rowsOfEntries};
 ghost use Rattle.cut.specs.Others.{othersPlaced};
 ghost use Rattle.search.specs.Placings.{found};
 ghost use Rattle.search.specs.Memos.{Memo};
@@ -17,40 +16,40 @@ ghost use Rattle.search.specs.Steps.{Standing};
 
 // The class of the last term placed has no mask under the rows in force.
 fn last_class_fails(
-    rows: &[u32],
+    entries: &[u64],
     memo: &mut [u8],
     arrangement: [u8; 12],
     placed: usize,
     used: u8,
     sets: u8,
 ) -> bool
-    requires { ⌜ Standing (now rows) sets (now memo) arrangement placed used ⌝ }
+    requires { ⌜ Standing (now entries) sets (now memo) arrangement placed used ⌝ }
     requires { ⌜ 0 < placed ⌝ }
-    ensures { λ r. ⌜ (r ≡ true → (left : ℕ) → found (now (rows .entry)) sets arrangement placed left ≡ none) ⌝ }
-    ensures { λ r. ⌜ Memo (now (rows .entry)) sets (now (memo .exit)) ⌝ }
+    ensures { λ r. ⌜ (r ≡ true → (left : ℕ) → found (now (entries .entry)) sets arrangement placed left ≡ none) ⌝ }
+    ensures { λ r. ⌜ Memo (now (entries .entry)) sets (now (memo .exit)) ⌝ }
 {
     let class = class_members(arrangement, placed, arrangement[placed - 1]);
-    !has_mask(rows, memo, class as usize, class, placed as u32, sets)
+    !has_mask(entries, memo, class as usize, class, placed as u32, sets)
 }
 
 // All other terms are placed, and some class has no mask.
 fn some_class_fails(
-    rows: &[u32],
+    entries: &[u64],
     memo: &mut [u8],
     arrangement: [u8; 12],
     placed: usize,
     used: u8,
     sets: u8,
 ) -> bool
-    requires { ⌜ Standing (now rows) sets (now memo) arrangement placed used ⌝ }
-    requires { ⌜ T (othersPlaced placed (map rowOf (now rows))) ⌝ }
-    ensures { λ r. ⌜ (r ≡ true → (left : ℕ) → found (now (rows .entry)) sets arrangement placed left ≡ none) ⌝ }
-    ensures { λ r. ⌜ Memo (now (rows .entry)) sets (now (memo .exit)) ⌝ }
+    requires { ⌜ Standing (now entries) sets (now memo) arrangement placed used ⌝ }
+    requires { ⌜ T (othersPlaced placed (rowsOfEntries (now entries))) ⌝ }
+    ensures { λ r. ⌜ (r ≡ true → (left : ℕ) → found (now (entries .entry)) sets arrangement placed left ≡ none) ⌝ }
+    ensures { λ r. ⌜ Memo (now (entries .entry)) sets (now (memo .exit)) ⌝ }
 {
     let mut k: u8 = 0;
     while k < used {
         let class = class_members(arrangement, placed, k);
-        if !has_mask_at_all(rows, memo, class, sets) {
+        if !has_mask_at_all(entries, memo, class, sets) {
             return true;
         }
         k += 1;
@@ -68,7 +67,7 @@ fn term_alone(term: usize) -> u32
 
 // All other terms are placed, and this later term fits into no class that stands, and not alone.
 fn term_fits_nowhere(
-    rows: &[u32],
+    entries: &[u64],
     memo: &mut [u8],
     arrangement: [u8; 12],
     placed: usize,
@@ -76,17 +75,17 @@ fn term_fits_nowhere(
     term: usize,
     sets: u8,
 ) -> bool
-    requires { ⌜ Standing (now rows) sets (now memo) arrangement placed used ⌝ }
-    requires { ⌜ T (othersPlaced placed (map rowOf (now rows))) ⌝ }
+    requires { ⌜ Standing (now entries) sets (now memo) arrangement placed used ⌝ }
+    requires { ⌜ T (othersPlaced placed (rowsOfEntries (now entries))) ⌝ }
     requires { ⌜ (placed ≤ term) × (term < maxTerms) ⌝ }
-    ensures { λ r. ⌜ (r ≡ true → (left : ℕ) → term < placed + left → found (now (rows .entry)) sets arrangement placed left ≡ none) ⌝ }
-    ensures { λ r. ⌜ Memo (now (rows .entry)) sets (now (memo .exit)) ⌝ }
+    ensures { λ r. ⌜ (r ≡ true → (left : ℕ) → term < placed + left → found (now (entries .entry)) sets arrangement placed left ≡ none) ⌝ }
+    ensures { λ r. ⌜ Memo (now (entries .entry)) sets (now (memo .exit)) ⌝ }
 {
     let own = term_alone(term);
     let mut k: u8 = 0;
     while k <= used {
         let class = class_members(arrangement, placed, k);
-        if has_mask_at_all(rows, memo, class + own, sets) {
+        if has_mask_at_all(entries, memo, class + own, sets) {
             return false;
         }
         k += 1;
@@ -96,7 +95,7 @@ fn term_fits_nowhere(
 
 // All other terms are placed, and some later term fits nowhere.
 fn some_term_fits_nowhere(
-    rows: &[u32],
+    entries: &[u64],
     memo: &mut [u8],
     arrangement: [u8; 12],
     placed: usize,
@@ -104,15 +103,15 @@ fn some_term_fits_nowhere(
     used: u8,
     sets: u8,
 ) -> bool
-    requires { ⌜ Standing (now rows) sets (now memo) arrangement placed used ⌝ }
-    requires { ⌜ T (othersPlaced placed (map rowOf (now rows))) ⌝ }
+    requires { ⌜ Standing (now entries) sets (now memo) arrangement placed used ⌝ }
+    requires { ⌜ T (othersPlaced placed (rowsOfEntries (now entries))) ⌝ }
     requires { ⌜ placed + left ≤ maxTerms ⌝ }
-    ensures { λ r. ⌜ (r ≡ true → found (now (rows .entry)) sets arrangement placed left ≡ none) ⌝ }
-    ensures { λ r. ⌜ Memo (now (rows .entry)) sets (now (memo .exit)) ⌝ }
+    ensures { λ r. ⌜ (r ≡ true → found (now (entries .entry)) sets arrangement placed left ≡ none) ⌝ }
+    ensures { λ r. ⌜ Memo (now (entries .entry)) sets (now (memo .exit)) ⌝ }
 {
     let mut term = placed;
     while term < placed + left {
-        if term_fits_nowhere(rows, memo, arrangement, placed, used, term, sets) {
+        if term_fits_nowhere(entries, memo, arrangement, placed, used, term, sets) {
             return true;
         }
         term += 1;
@@ -122,7 +121,7 @@ fn some_term_fits_nowhere(
 
 // Is nothing found behind this beginning, as far as the rules tell. `others` is enough for the other terms of all rows.
 pub(crate) fn hopeless(
-    rows: &[u32],
+    entries: &[u64],
     memo: &mut [u8],
     arrangement: [u8; 12],
     placed: usize,
@@ -131,20 +130,20 @@ pub(crate) fn hopeless(
     others: usize,
     sets: u8,
 ) -> bool
-    requires { ⌜ Standing (now rows) sets (now memo) arrangement placed used ⌝ }
-    requires { ⌜ T (othersPlaced others (map rowOf (now rows))) ⌝ }
+    requires { ⌜ Standing (now entries) sets (now memo) arrangement placed used ⌝ }
+    requires { ⌜ T (othersPlaced others (rowsOfEntries (now entries))) ⌝ }
     requires { ⌜ placed + left ≤ maxTerms ⌝ }
-    ensures { λ r. ⌜ (r ≡ true → found (now (rows .entry)) sets arrangement placed left ≡ none) ⌝ }
-    ensures { λ r. ⌜ Memo (now (rows .entry)) sets (now (memo .exit)) ⌝ }
+    ensures { λ r. ⌜ (r ≡ true → found (now (entries .entry)) sets arrangement placed left ≡ none) ⌝ }
+    ensures { λ r. ⌜ Memo (now (entries .entry)) sets (now (memo .exit)) ⌝ }
 {
     if placed < others {
         if placed == 0 {
             return false;
         }
-        return last_class_fails(rows, memo, arrangement, placed, used, sets);
+        return last_class_fails(entries, memo, arrangement, placed, used, sets);
     }
-    if some_class_fails(rows, memo, arrangement, placed, used, sets) {
+    if some_class_fails(entries, memo, arrangement, placed, used, sets) {
         return true;
     }
-    some_term_fits_nowhere(rows, memo, arrangement, placed, left, used, sets)
+    some_term_fits_nowhere(entries, memo, arrangement, placed, left, used, sets)
 }

@@ -2,6 +2,7 @@
 mod answers;
 mod classes;
 mod cuts;
+mod entries;
 mod memos;
 mod models;
 mod others;

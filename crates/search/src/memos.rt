@@ -11,7 +11,7 @@ const CLASS_COUNT: usize = 4096;
 
 // The memo's byte at `at` is about this class, a set of terms, under the rows whose other term is among the first `placed`.
 pub(crate) fn has_mask(
-    rows: &[u32],
+    entries: &[u64],
     memo: &mut [u8],
     at: usize,
     class: u32,
@@ -19,16 +19,16 @@ pub(crate) fn has_mask(
     sets: u8,
 ) -> bool
     requires { ⌜ sets ≤ maxSets ⌝ }
-    requires { ⌜ Memo (now rows) sets (now memo) ⌝ }
+    requires { ⌜ Memo (now entries) sets (now memo) ⌝ }
     requires { ⌜ NotedAt at class placed ⌝ }
-    ensures { λ r. ⌜ r ≡ isThere (maskOfClass (now (rows .entry)) sets class placed) ⌝ }
-    ensures { λ r. ⌜ Memo (now (rows .entry)) sets (now (memo .exit)) ⌝ }
+    ensures { λ r. ⌜ r ≡ isThere (maskOfClass (now (entries .entry)) sets class placed) ⌝ }
+    ensures { λ r. ⌜ Memo (now (entries .entry)) sets (now (memo .exit)) ⌝ }
 {
     let note = memo[at];
     if note != 0 {
         return note == 2;
     }
-    match smallest_mask(rows, class, placed, sets) {
+    match smallest_mask(entries, class, placed, sets) {
         Smallest::At(_) => {
             memo[at] = 2;
             true
@@ -41,12 +41,12 @@ pub(crate) fn has_mask(
 }
 
 // The same under all rows: as with twelve terms placed.
-pub(crate) fn has_mask_at_all(rows: &[u32], memo: &mut [u8], class: u32, sets: u8) -> bool
+pub(crate) fn has_mask_at_all(entries: &[u64], memo: &mut [u8], class: u32, sets: u8) -> bool
     requires { ⌜ sets ≤ maxSets ⌝ }
-    requires { ⌜ Memo (now rows) sets (now memo) ⌝ }
+    requires { ⌜ Memo (now entries) sets (now memo) ⌝ }
     requires { ⌜ class < classCount ⌝ }
-    ensures { λ r. ⌜ r ≡ isThere (maskOfClass (now (rows .entry)) sets class maxTerms) ⌝ }
-    ensures { λ r. ⌜ Memo (now (rows .entry)) sets (now (memo .exit)) ⌝ }
+    ensures { λ r. ⌜ r ≡ isThere (maskOfClass (now (entries .entry)) sets class maxTerms) ⌝ }
+    ensures { λ r. ⌜ Memo (now (entries .entry)) sets (now (memo .exit)) ⌝ }
 {
-    has_mask(rows, memo, class as usize + CLASS_COUNT, class, 12, sets)
+    has_mask(entries, memo, class as usize + CLASS_COUNT, class, 12, sets)
 }

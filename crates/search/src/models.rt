@@ -6,7 +6,6 @@ use crate::classes::class_members;
 use mask::Smallest;
 use mask::smallest_mask;
 ghost use mathlib.Core.Path.{_≡_};
-ghost use mathlib.Core.List.{map};
 ghost use Prim.Native.Nat.{_^_, _≤_};
 ghost use lib.Dec.{T};
 ghost use lib.ListN.{take};
@@ -14,29 +13,29 @@ ghost use Rattle.question.specs.Limits.{maxSets};
 ghost use Rattle.theory.specs.Solutions.{allRows};
 ghost use Rattle.theory.specs.FirstModels.{modelOf};
 ghost use Rattle.theory.specs.Sets.{fits, rowDeclared};
-ghost use Rattle.row.specs.Rows.{rowOf};
+ghost use Rattle.mask.specs.Entries.{rowsOfEntries};
 ghost use Rattle.search.specs.Answers.{answerOf};
 ghost use Rattle.search.specs.Placings.{Placing};
 
 // The arrangement with those masks, or impossible where a class has none.
 pub(crate) fn model(
-    rows: &[u32],
+    entries: &[u64],
     arrangement: [u8; 12],
     terms: usize,
     used: u8,
     sets: u8,
 ) -> SearchAnswer
     requires { ⌜ sets ≤ maxSets ⌝ }
-    requires { ⌜ T (allRows (rowDeclared terms sets) (map rowOf (now rows))) ⌝ }
+    requires { ⌜ T (allRows (rowDeclared terms sets) (rowsOfEntries (now entries))) ⌝ }
     requires { ⌜ Placing arrangement terms used ⌝ }
-    ensures { λ r. ⌜ r ≡ answerOf (modelOf fits (2 ^ sets) (map rowOf (now (rows .entry))) (take terms arrangement)) ⌝ }
+    ensures { λ r. ⌜ r ≡ answerOf (modelOf fits (2 ^ sets) (rowsOfEntries (now (entries .entry))) (take terms arrangement)) ⌝ }
 {
     let count = used as usize;
     let mut masks: [u32; 12] = [0; 12];
     let mut k: usize = 0;
     while k < count {
         let class = class_members(arrangement, terms, k as u8);
-        let smallest = smallest_mask(rows, class, terms as u32, sets);
+        let smallest = smallest_mask(entries, class, terms as u32, sets);
         let Smallest::At(m) = smallest else {
             return without_model(Verdict::Impossible);
         };

@@ -1,8 +1,8 @@
 // The other terms that rows name: from when on they are all placed.
 use row::unpack;
-ghost use mathlib.Core.List.{map};
 ghost use lib.Dec.{T};
 ghost use Rattle.row.specs.Rows.{rowOf};
+ghost use Rattle.mask.specs.Entries.{rowsOfEntries};
 ghost use Rattle.mask.specs.InForce.{otherPlaced};
 ghost use Rattle.cut.specs.Others.{othersPlaced};
 
@@ -30,13 +30,14 @@ fn other_within(row: u32) -> usize
 }
 
 // So many that the other term of each row is.
-pub(crate) fn others_within(rows: &[u32]) -> usize
-    ensures { λ r. ⌜ T (othersPlaced r (map rowOf (now (rows .entry)))) ⌝ }
+pub(crate) fn others_within(entries: &[u64]) -> usize
+    ensures { λ r. ⌜ T (othersPlaced r (rowsOfEntries (now (entries .entry)))) ⌝ }
 {
     let mut n: usize = 0;
     let mut i: usize = 0;
-    while i < rows.len() {
-        let one = other_within(rows[i]);
+    while i < entries.len() {
+        let row = (entries[i] % 4294967296) as u32;
+        let one = other_within(row);
         if n < one {
             n = one;
         }

@@ -6,13 +6,12 @@ use crate::answers::without_model;
 use crate::cuts::hopeless;
 use crate::models::model;
 ghost use mathlib.Core.Path.{_≡_};
-ghost use mathlib.Core.List.{map};
 ghost use Prim.Native.Nat.{_+_, _≤_, max};
 ghost use lib.Dec.{T};
 ghost use Rattle.question.specs.Limits.{maxTerms};
 ghost use Rattle.theory.specs.Solutions.{allRows};
 ghost use Rattle.theory.specs.Sets.{rowDeclared};
-ghost use Rattle.row.specs.Rows.{rowOf};
+ghost use Rattle.mask.specs.Entries.{rowsOfEntries};
 ghost use Rattle.cut.specs.Others.{othersPlaced};
 ghost use Rattle.search.specs.Answers.{answerOf};
 ghost use Rattle.search.specs.Placings.{found};
@@ -29,7 +28,7 @@ fn classes_with(used: u8, c: u8) -> u8
 
 // `left` terms are still to be placed, the first `placed` stand in `used` classes, and `others` is enough for the other terms of all rows.
 pub(crate) fn place(
-    rows: &[u32],
+    entries: &[u64],
     memo: &mut [u8],
     arrangement: [u8; 12],
     placed: usize,
@@ -38,25 +37,34 @@ pub(crate) fn place(
     others: usize,
     sets: u8,
 ) -> SearchAnswer
-    requires { ⌜ Standing (now rows) sets (now memo) arrangement placed used ⌝ }
+    requires { ⌜ Standing (now entries) sets (now memo) arrangement placed used ⌝ }
     requires { ⌜ placed + left ≤ maxTerms ⌝ }
-    requires { ⌜ T (allRows (rowDeclared (placed + left) sets) (map rowOf (now rows))) ⌝ }
-    requires { ⌜ T (othersPlaced others (map rowOf (now rows))) ⌝ }
-    ensures { λ r. ⌜ r ≡ answerOf (found (now (rows .entry)) sets arrangement placed left) ⌝ }
-    ensures { λ r. ⌜ Memo (now (rows .entry)) sets (now (memo .exit)) ⌝ }
+    requires { ⌜ T (allRows (rowDeclared (placed + left) sets) (rowsOfEntries (now entries))) ⌝ }
+    requires { ⌜ T (othersPlaced others (rowsOfEntries (now entries))) ⌝ }
+    ensures { λ r. ⌜ r ≡ answerOf (found (now (entries .entry)) sets arrangement placed left) ⌝ }
+    ensures { λ r. ⌜ Memo (now (entries .entry)) sets (now (memo .exit)) ⌝ }
 {
-    if hopeless(rows, memo, arrangement, placed, left, used, others, sets) {
+    if hopeless(entries, memo, arrangement, placed, left, used, others, sets) {
         return without_model(Verdict::Impossible);
     }
     if left == 0 {
-        return model(rows, arrangement, placed, used, sets);
+        return model(entries, arrangement, placed, used, sets);
     }
     let mut c: u8 = 0;
     while c <= used {
         let mut next = arrangement;
         next[placed] = c;
         let more = classes_with(used, c);
-        let r = place(rows, memo, next, placed + 1, left - 1, more, others, sets);
+        let r = place(
+            entries,
+            memo,
+            next,
+            placed + 1,
+            left - 1,
+            more,
+            others,
+            sets,
+        );
         let verdict = r.verdict;
         if is_possible(verdict) {
             return r;

@@ -1,7 +1,7 @@
 -- Rows and rules: what holds of every row, and which rows a rule gives.
 use Prim.Native.Nat.{ℕ, zero, suc, _+_, _*_, _≤_, _<_}
 use mathlib.Core.Path.{_≡_, refl, ap}
-use mathlib.Core.Bool.{Bool}
+use mathlib.Core.Bool.{Bool, true, false, _&&_}
 use mathlib.Core.List.{List, [], _∷_, _++_, map}
 use native.Mathlib.Omega.{arith}
 use native.Mathlib.Decide.{decLe}
@@ -40,6 +40,14 @@ module _ {Test : Type 0} where
   -- where one test passes whatever another does, so do the walks over all rows
   pub all-map : (f g : Row Test → Bool) → ((r : Row Test) → T (f r) → T (g r)) → (rs : List (Row Test)) → T (allRows f rs) → T (allRows g rs)
   all-map f g h rs all = every-all g rs (every-map (λ r. T (f r)) (λ r. T (g r)) h rs (all-every f rs all))
+
+  pub all-append : (f : Row Test → Bool) (rs ss : List (Row Test)) → allRows f (rs ++ ss) ≡ (allRows f rs && allRows f ss)
+  all-append f [] ss = refl
+  all-append f (r ∷ rs) ss = go (f r) (all-append f rs ss)
+    where
+      go : (b : Bool) → allRows f (rs ++ ss) ≡ (allRows f rs && allRows f ss) → (b && allRows f (rs ++ ss)) ≡ (b && allRows f rs && allRows f ss)
+      go true e = e
+      go false e = refl
 
   module _ (P : Row Test → Type 0) where
     pub every-front : (rs ss : List (Row Test)) → EveryRow P (rs ++ ss) → EveryRow P rs

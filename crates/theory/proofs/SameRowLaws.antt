@@ -7,10 +7,10 @@ use mathlib.Core.Option.{none, some, Option·map}
 use Rattle.theory.specs.Arrangements.{classes}
 use Rattle.theory.specs.Searches.{firstFrom, firstArrangement, eachFrom}
 use Rattle.theory.specs.Rules.{Row}
-use Rattle.theory.specs.Solutions.{withMasks, allRows}
+use Rattle.theory.specs.Solutions.{withMasks, SameRows}
 use Rattle.theory.specs.FirstModels.{serves, smallestMask, modelOf, firstModel}
 
-module _ {Test : Type 0} (fits : ℕ → (ℕ → Bool) → Test → Bool) (bound : ℕ) (rows others : List (Row Test)) (same : (f : Row Test → Bool) → allRows f rows ≡ allRows f others) where
+module _ {Test : Type 0} (fits : ℕ → (ℕ → Bool) → Test → Bool) (bound : ℕ) (rows others : List (Row Test)) (same : SameRows rows others) where
   pub mask-same : (l : List ℕ) (k : ℕ) → smallestMask fits bound rows l k ≡ smallestMask fits bound others l k
   unfolding smallestMask
   mask-same l k = ap (firstFrom bound 0) (fun-ext (λ m. ap (λ b. cond b (some m) none) (same (serves fits l k m))))

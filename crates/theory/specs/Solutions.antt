@@ -26,6 +26,10 @@ abbrev pub allRows : {Test : Type 0} → (Row Test → Bool) → List (Row Test)
 allRows f [] = true
 allRows f (r ∷ rs) = f r && allRows f rs
 
+-- no test of single rows tells the two lists apart: every row of one is in the other
+abbrev pub SameRows : {Test : Type 0} → List (Row Test) → List (Row Test) → Type 0
+SameRows {Test} rows others = (f : Row Test → Bool) → allRows f rows ≡ allRows f others
+
 -- `fits m same t`: does a term pass the test t, where m is its class's mask and `same` says which terms are the same as it
 module _ {Test : Type 0} (fits : ℕ → (ℕ → Bool) → Test → Bool) where
   -- is the row met where its term's class is k and has the mask m

@@ -1,15 +1,15 @@
--- `smallest_mask` tries masks upward: each has its reasons, so no smaller one is of use. Its walk over the rows is at each index what is left of the walk.
+-- `smallest_mask` tries masks upward: each has its reasons, so no smaller one is of use. Its walk over the entries is at each index what is left of the walk.
 use Prim.Native.Nat.{ℕ, _-_, _^_, _≤_, _<_, min}
 use mathlib.Core.Path.{_≡_, refl, sym, ap, _∙_}
 use mathlib.Core.Bool.{Bool}
-use mathlib.Core.List.{List, map}
+use mathlib.Core.List.{List}
 use mathlib.Core.Option.{none, some}
 use native.Mathlib.Omega.{arith}
 use borrow.Author.Needs.{needs}
 use borrow.Author.Tests.{not-true, not-false}
 use lib.ListN.{length}
 use lib.Pow.{pow-pos}
-use Rattle.row.specs.Rows.{rowOf}
+use Rattle.mask.specs.Entries.{rowsOfEntries}
 use Rattle.mask.specs.Trials.{IsOfNoUse, reasonAt, HasReasons, IsDecided}
 use Rattle.mask.specs.Masks.{smallestOf}
 use Rattle.mask.proofs.ReasonLaws.{reasons-start, reasons-below}
@@ -18,77 +18,83 @@ use Rattle.mask.proofs.WalkLaws.{meetsFrom, walk-turn, walk-end, walk-d
 use Rattle.mask.proofs.masks.smallest_mask.Statement.{statement}
 use Rattle.mask.proofs.masks.smallest_mask.Tie as tie
 
--- does the mask m meet the rows with these numbers
+-- does the mask m meet the rows of the entries
 abbrev meets : List ℕ → ℕ → ℕ → ℕ → Bool
-meets rows class placed m = meetsAll (map rowOf rows) class placed m
+meets entries class placed m = meetsAll (rowsOfEntries entries) class placed m
 
-abbrev Inv-rows : tie.InvT-rows
-Inv-rows rows class placed sets bits m why i₀ i = (i ≤ length rows) × (meets rows class placed m ≡ meetsFrom class placed rows m i)
+abbrev Inv-entries : tie.InvT-entries
+Inv-entries entries class placed sets bits m why i₀ i = (i ≤ length entries) × (meets entries class placed m ≡ meetsFrom class placed entries m i)
 
-abbrev μ-rows : tie.MeasureT-rows
-μ-rows rows class placed sets bits m why i₀ i = length rows - i
+abbrev μ-entries : tie.MeasureT-entries
+μ-entries entries class placed sets bits m why i₀ i = length entries - i
 
 abbrev Inv-masks : tie.InvT-masks
-Inv-masks rows class placed sets bits m₀ why₀ m why = (m < 2 ^ bits) × HasReasons (meets rows class placed) why m
+Inv-masks entries class placed sets bits m₀ why₀ m why = (m < 2 ^ bits) × HasReasons (meets entries class placed) why m
 
 abbrev μ-masks : tie.MeasureT-masks
-μ-masks rows class placed sets bits m₀ why₀ m why = 2 ^ bits - m
+μ-masks entries class placed sets bits m₀ why₀ m why = 2 ^ bits - m
 
--- where a row fails, the bits that are to blame decide
-decided : (c : tie.After-blame Inv-rows μ-rows Inv-masks μ-masks) →
-    let l = c .before .before .before .before .before in let a = l .before .before .before .before .args in
-    IsDecided (meets (a .rows .now) (a .class) (a .placed)) (c .blame .result) (l .before .masks .m)
+-- the arguments, seen from the loop over masks
+abbrev given : tie.At-masks Inv-entries μ-entries Inv-masks μ-masks → tie.Start Inv-entries μ-entries Inv-masks μ-masks
+given l = l .before .before .before
+
+-- where an entry fails, the bits that are to blame decide
+decided : (c : tie.After-blame Inv-entries μ-entries Inv-masks μ-masks) →
+    let l = c .before .before .before .before .before .before .before in let a = given l .args in
+    IsDecided (meets (a .entries .now) (a .class) (a .placed)) (c .blame .result) (l .masks .m)
 decided c =
-    let l = c .before .before .before .before .before in
-    let a = l .before .before .before .before .args in
-    rw (c .blame .ensures)
-    (walk-decided (a .class) (a .placed) (a .rows .now) (l .before .masks .m) (l .rows .i) (c .before .before .before .before .if1 .left)
-    (sym (c .before .before .meets .ensures) ∙ not-true (c .before .before .meets .result) (c .before .if2 .taken)))
+    let walk = c .before .before .before .before .before .before in
+    let l = walk .before in
+    let a = given l .args in
+    let met = c .before .before .before .meets in
+    rw (c .blame .ensures, c .before .row-in .ensures)
+    (walk-decided (a .class) (a .placed) (a .entries .now) (l .masks .m) (walk .entries .i) (c .before .before .before .before .before .if1 .left)
+    (sym (met .ensures) ∙ not-true (met .result) (c .before .before .if2 .taken)))
 
-rows-again : tie.Need-rows-again Inv-rows μ-rows Inv-masks μ-masks
-rows-again c =
-    let l = c .before .before .before .before in
-    let a = l .before .before .before .before .args in
+entries-again : tie.Need-entries-again Inv-entries μ-entries Inv-masks μ-masks
+entries-again c =
+    let walk = c .before .before .before .before in
+    let a = given (walk .before) .args in
     let met = sym (c .before .meets .ensures) ∙ not-false (c .before .meets .result) (c .if2 .left) in
-    (search needs, l .rows .inv .1 ∙ (rw met at (walk-turn (a .class) (a .placed) (a .rows .now) (l .before .masks .m) (l .rows .i) (c .before .before .before .if1 .left))))
+    (search needs, walk .entries .inv .1 ∙ (rw met at (walk-turn (a .class) (a .placed) (a .entries .now) (walk .before .masks .m) (walk .entries .i) (c .before .before .before .if1 .left))))
 
-masks-less : tie.Need-masks-less Inv-rows μ-rows Inv-masks μ-masks
+masks-less : tie.Need-masks-less Inv-entries μ-entries Inv-masks μ-masks
 masks-less c =
     let t = rw (c .before .next .given .1) at (c .before .before .before .next-mask .ensures) in
     omega (arith, t .0, t .1)
 
-masks-again : tie.Need-masks-again Inv-rows μ-rows Inv-masks μ-masks
+masks-again : tie.Need-masks-again Inv-entries μ-entries Inv-masks μ-masks
 masks-again c =
     let k = c .before .before .before .before .before in
-    let l = k .before .before .before .before .before .before in
-    let a = l .before .before .before .args in
+    let l = k .before .before .before .before .before .before .before in
+    let a = given l .args in
     let t = rw (c .before .next .given .1) at (c .before .before .before .next-mask .ensures) in
-    (t .1, t .2 (meets (a .rows .now) (a .class) (a .placed)) (l .masks .inv .1) (decided k))
+    (t .1, t .2 (meets (a .entries .now) (a .class) (a .placed)) (l .masks .inv .1) (decided k))
 
-returns : tie.Need-returns Inv-rows μ-rows Inv-masks μ-masks
+returns : tie.Need-returns Inv-entries μ-entries Inv-masks μ-masks
 returns c =
     let l = c .before .before in
-    let a = l .before .before .before .args in
+    let a = given l .args in
     let m = l .masks .m in
     let below = rw (l .before .width .ensures) at (l .masks .inv .0) in
-    let met = c .before .rows .inv .1 ∙ walk-end (a .class) (a .placed) (a .rows .now) m (c .before .rows .i) (c .if1 .taken) in
-    let no-smaller = reasons-below 2 (omega arith) (IsOfNoUse (meets (a .rows .now) (a .class) (a .placed))) (reasonAt (l .masks .why)) m (l .masks .inv .1 .1) in
-    sym (ap smallestOf (leastMask-one (2 ^ min (a .sets) 32) (map rowOf (a .rows .now)) (a .class) (a .placed) (some m) (below, met, no-smaller)))
+    let met = c .before .entries .inv .1 ∙ walk-end (a .class) (a .placed) (a .entries .now) m (c .before .entries .i) (c .if1 .taken) in
+    let no-smaller = reasons-below 2 (omega arith) (IsOfNoUse (meets (a .entries .now) (a .class) (a .placed))) (reasonAt (l .masks .why)) m (l .masks .inv .1 .1) in
+    sym (ap smallestOf (leastMask-one (2 ^ min (a .sets) 32) (rowsOfEntries (a .entries .now)) (a .class) (a .placed) (some m) (below, met, no-smaller)))
 
-returns-2 : tie.Need-returns-2 Inv-rows μ-rows Inv-masks μ-masks
+returns-2 : tie.Need-returns-2 Inv-entries μ-entries Inv-masks μ-masks
 returns-2 c =
     let k = c .before .before .before .before in
-    let l = k .before .before .before .before .before .before in
-    let a = l .before .before .before .args in
+    let l = k .before .before .before .before .before .before .before in
+    let a = given l .args in
     let t = rw (c .enum-told .given .1, l .before .width .ensures) at (c .before .before .next-mask .ensures) in
-    sym (ap smallestOf (leastMask-one (2 ^ min (a .sets) 32) (map rowOf (a .rows .now)) (a .class) (a .placed) none (t (meets (a .rows .now) (a .class) (a .placed)) (l .masks .inv .1) (decided k))))
+    sym (ap smallestOf (leastMask-one (2 ^ min (a .sets) 32) (rowsOfEntries (a .entries .now)) (a .class) (a .placed) none (t (meets (a .entries .now) (a .class) (a .placed)) (l .masks .inv .1) (decided k))))
 
 pub smallest-mask-spec : {M : Type 1} → statement M
 smallest-mask-spec =
     tie.close
     (tie.spec
-    Inv-rows
-    μ-rows
+    Inv-entries
+    μ-entries
     Inv-masks
     μ-masks
     (λ c κs. search needs)
@@ -98,10 +104,11 @@ smallest-mask-spec =
     (λ c. search needs)
     (λ c κs. search needs)
     (λ c κs. search needs)
+    (λ c κs. search needs)
     (λ c. search needs)
     (λ c. search needs)
-    rows-again
-    (λ c κs. (search needs, c .before .before .before .before .before .before .before .masks .inv .0))
+    entries-again
+    (λ c κs. (search needs, c .before .before .before .before .before .before .before .before .masks .inv .0))
     (λ c. search needs)
     masks-less
     masks-again

@@ -1,18 +1,17 @@
 -- `hopeless` asks the rules that may be asked: where other terms are still to be placed, only the first.
 use mathlib.Core.Bool.{false≢true}
-use mathlib.Core.List.{map}
 use native.Mathlib.Omega.{arith}
 use borrow.Author.Needs.{needs}
 use lib.Dec.{T}
-use Rattle.row.specs.Rows.{rowOf}
+use Rattle.mask.specs.Entries.{rowsOfEntries}
 use Rattle.cut.specs.Others.{othersPlaced}
 use Rattle.cut.proofs.InForceLaws.{others-more}
 use Rattle.search.proofs.cuts.hopeless.Statement.{statement}
 use Rattle.search.proofs.cuts.hopeless.Tie as tie
 
 -- all other terms are placed
-settled : (c : tie.After-some-class-fails-arg) → let a = c .before .before .before .before .args in T (othersPlaced (a .placed) (map rowOf (a .rows .now)))
-settled c = let s = c .before .before .before .before in others-more (s .args .others) (s .args .placed) (c .before .if1 .left) (map rowOf (s .args .rows .now)) (s .pre .1 .0)
+settled : (c : tie.After-some-class-fails-arg) → let a = c .before .before .before .before .args in T (othersPlaced (a .placed) (rowsOfEntries (a .entries .now)))
+settled c = let s = c .before .before .before .before in others-more (s .args .others) (s .args .placed) (c .before .if1 .left) (rowsOfEntries (s .args .entries .now)) (s .pre .1 .0)
 
 last-class-fails-requires : tie.Need-last-class-fails-requires
 last-class-fails-requires c κs = let s = c .before .before .before .before .before in (s .pre .0, omega arith)

@@ -14,7 +14,7 @@ returns c =
     let s = c .before .before .before .before .before .before .before in
     let asked = c .before .before .has-mask in
     let members = c .before .before .before .before .class-members in (
-      λ e. last-cut (s .pre .0 .placing) (s .pre .1) (members .result) (members .ensures) (s .args .rows .now) (s .args .sets) (asked .result) (asked .ensures .0) e,
+      λ e. last-cut (s .pre .0 .placing) (s .pre .1) (members .result) (members .ensures) (s .args .entries .now) (s .args .sets) (asked .result) (asked .ensures .0) e,
       asked .ensures .1,
     )
 

@@ -11,10 +11,10 @@ use Rattle.search.proofs.cuts.some_class_fails.Statement.{statement}
 use Rattle.search.proofs.cuts.some_class_fails.Tie as tie
 
 abbrev Inv-loop : tie.InvT-loop
-Inv-loop rows memo₀ arrangement placed used sets k₀ memo k = (k ≤ used) × Memo rows sets memo
+Inv-loop entries memo₀ arrangement placed used sets k₀ memo k = (k ≤ used) × Memo entries sets memo
 
 abbrev μ-loop : tie.MeasureT-loop
-μ-loop rows memo₀ arrangement placed used sets k₀ memo k = used - k
+μ-loop entries memo₀ arrangement placed used sets k₀ memo k = used - k
 
 has-mask-at-all-requires : tie.Need-has-mask-at-all-requires Inv-loop μ-loop
 has-mask-at-all-requires c κs =
@@ -28,7 +28,7 @@ returns c =
     let s = l .before .before .before in
     let asked = c .before .before .before .has-mask-at-all in
     let members = c .before .before .before .before .before .class-members in (
-      λ e. settled-class-cut (s .pre .0 .placing) (s .args .rows .now) (s .args .sets) (s .pre .1) (l .loop .k) (members .result) (c .before .before .before .before .before .before .loop-test .taken) (members .ensures)
+      λ e. settled-class-cut (s .pre .0 .placing) (s .args .entries .now) (s .args .sets) (s .pre .1) (l .loop .k) (members .result) (c .before .before .before .before .before .before .loop-test .taken) (members .ensures)
           (asked .result) (asked .ensures .0) (c .if1 .taken),
       asked .ensures .1,
     )

@@ -9,10 +9,10 @@ use Rattle.search.proofs.cuts.some_term_fits_nowhere.Statement.{stateme
 use Rattle.search.proofs.cuts.some_term_fits_nowhere.Tie as tie
 
 abbrev Inv-loop : tie.InvT-loop
-Inv-loop rows memo₀ arrangement placed left used sets term₀ memo term = (placed ≤ term) × (term ≤ placed + left) × Memo rows sets memo
+Inv-loop entries memo₀ arrangement placed left used sets term₀ memo term = (placed ≤ term) × (term ≤ placed + left) × Memo entries sets memo
 
 abbrev μ-loop : tie.MeasureT-loop
-μ-loop rows memo₀ arrangement placed left used sets term₀ memo term = placed + left - term
+μ-loop entries memo₀ arrangement placed left used sets term₀ memo term = placed + left - term
 
 term-fits-nowhere-requires : tie.Need-term-fits-nowhere-requires Inv-loop μ-loop
 term-fits-nowhere-requires c κs =

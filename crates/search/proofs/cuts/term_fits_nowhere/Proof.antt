@@ -11,10 +11,10 @@ use Rattle.search.proofs.cuts.term_fits_nowhere.Statement.{statement}
 use Rattle.search.proofs.cuts.term_fits_nowhere.Tie as tie
 
 abbrev Inv-loop : tie.InvT-loop
-Inv-loop rows memo₀ arrangement placed used term sets own k₀ memo k = (k ≤ suc used) × Memo rows sets memo × FitsNone rows sets (take placed arrangement) term k
+Inv-loop entries memo₀ arrangement placed used term sets own k₀ memo k = (k ≤ suc used) × Memo entries sets memo × FitsNone entries sets (take placed arrangement) term k
 
 abbrev μ-loop : tie.MeasureT-loop
-μ-loop rows memo₀ arrangement placed used term sets own k₀ memo k = suc used - k
+μ-loop entries memo₀ arrangement placed used term sets own k₀ memo k = suc used - k
 
 -- the class with the term has a place in the memo
 few : (c : tie.After-has-mask-at-all-arg Inv-loop μ-loop) → c .before .class-members .result + c .before .before .before .before .term-alone .result < classCount
@@ -32,7 +32,7 @@ loop-again c =
     let members = c .before .before .before .before .before .class-members in (
       omega arith,
       asked .ensures .1,
-      none-more (a .rows .now) (a .sets) (take (a .placed) (a .arrangement)) (a .term) (l .loop .k) (members .result) (l .before .term-alone .result) (members .ensures) (l .before .term-alone .ensures)
+      none-more (a .entries .now) (a .sets) (take (a .placed) (a .arrangement)) (a .term) (l .loop .k) (members .result) (l .before .term-alone .result) (members .ensures) (l .before .term-alone .ensures)
           (asked .result) (asked .ensures .0) (c .if1 .left) (l .loop .inv .2),
     )
 
@@ -40,7 +40,7 @@ returns-2 : tie.Need-returns-2 Inv-loop μ-loop
 returns-2 c =
     let l = c .before in
     let s = l .before .before .before .before in (
-      λ e. settled-term-cut (s .pre .0 .placing) (s .args .rows .now) (s .args .sets) (s .pre .1 .0) (s .args .term) (l .loop .k) (s .pre .1 .1 .0) (c .loop-test .left) (l .loop .inv .2),
+      λ e. settled-term-cut (s .pre .0 .placing) (s .args .entries .now) (s .args .sets) (s .pre .1 .0) (s .args .term) (l .loop .k) (s .pre .1 .1 .0) (c .loop-test .left) (l .loop .inv .2),
       l .loop .inv .1,
     )
 
@@ -51,7 +51,7 @@ term-fits-nowhere-spec =
     Inv-loop
     μ-loop
     (λ c κs. c .before .before .pre .1 .1 .1)
-    (λ c. let s = c .before .before .before in (omega arith, s .pre .0 .remembered, none-tried (s .args .rows .now) (s .args .sets) (take (s .args .placed) (s .args .arrangement)) (s .args .term)))
+    (λ c. let s = c .before .before .before in (omega arith, s .pre .0 .remembered, none-tried (s .args .entries .now) (s .args .sets) (take (s .args .placed) (s .args .arrangement)) (s .args .term)))
     (λ c κs. omega (arith, c .before .before .before .before .before .pre .0 .placing .few-terms))
     (λ c. omega (arith, few c))
     (λ c κs. let l = c .before .before .before in (l .before .before .before .before .pre .0 .few-sets, (l .loop .inv .1, few c)))

@@ -14,11 +14,11 @@ use Rattle.search.proofs.models.model.Statement.{statement}
 use Rattle.search.proofs.models.model.Tie as tie
 
 abbrev Inv-loop : tie.InvT-loop
-Inv-loop rows arrangement terms used sets count masks₀ k₀ masks k =
-    (count ≡ used) × (k ≤ used) × (length masks ≡ maxTerms) × RestZero k masks × MasksTo rows sets (take terms arrangement) k masks
+Inv-loop entries arrangement terms used sets count masks₀ k₀ masks k =
+    (count ≡ used) × (k ≤ used) × (length masks ≡ maxTerms) × RestZero k masks × MasksTo entries sets (take terms arrangement) k masks
 
 abbrev μ-loop : tie.MeasureT-loop
-μ-loop rows arrangement terms used sets count masks₀ k₀ masks k = used - k
+μ-loop entries arrangement terms used sets count masks₀ k₀ masks k = used - k
 
 returns : tie.Need-returns Inv-loop μ-loop
 returns c =
@@ -27,8 +27,8 @@ returns c =
     let a = s .args in
     let members = c .before .before .before .before .class-members in
     let smallest = c .before .before .before .smallest-mask in
-    leaf-none (a .rows .now) (a .sets) (a .arrangement) (a .terms) (a .used) (s .pre .1 .1) (s .pre .1 .0) (l .loop .k) (members .result) (members .ensures) (c .without-model .result) (omega arith)
-    (mask-lacks (a .rows .now) (a .sets) (members .result) (a .terms) (s .pre .0) (smallest .result) (smallest .ensures) (c .before .enum-told .given .1)) (c .without-model .ensures)
+    leaf-none (a .entries .now) (a .sets) (a .arrangement) (a .terms) (a .used) (s .pre .1 .1) (s .pre .1 .0) (l .loop .k) (members .result) (members .ensures) (c .without-model .result) (omega arith)
+    (mask-lacks (a .entries .now) (a .sets) (members .result) (a .terms) (s .pre .0) (smallest .result) (smallest .ensures) (c .before .enum-told .given .1)) (c .without-model .ensures)
 
 loop-again : tie.Need-loop-again Inv-loop μ-loop
 loop-again c =
@@ -41,8 +41,8 @@ loop-again c =
       omega arith,
       length-set (l .loop .masks) (l .loop .k) _ ∙ l .loop .inv .2,
       rest-set (l .loop .masks) (l .loop .k) _ (omega (arith, s .pre .1 .1)) (l .loop .inv .3),
-      leaf-more (a .rows .now) (a .sets) (a .arrangement) (a .terms) (a .used) (s .pre .1 .1) (s .pre .1 .0) (l .loop .k) (members .result) (members .ensures) (l .loop .masks) _ (omega (arith, s .pre .1 .1))
-          (mask-is (a .rows .now) (a .sets) (members .result) (a .terms) (s .pre .0) (smallest .result) (smallest .ensures) _ (c .before .smallest .given .1)) (l .loop .inv .4),
+      leaf-more (a .entries .now) (a .sets) (a .arrangement) (a .terms) (a .used) (s .pre .1 .1) (s .pre .1 .0) (l .loop .k) (members .result) (members .ensures) (l .loop .masks) _ (omega (arith, s .pre .1 .1))
+          (mask-is (a .entries .now) (a .sets) (members .result) (a .terms) (s .pre .0) (smallest .result) (smallest .ensures) _ (c .before .smallest .given .1)) (l .loop .inv .4),
     )
 
 returns-2 : tie.Need-returns-2 Inv-loop μ-loop
@@ -51,8 +51,8 @@ returns-2 c =
     let s = l .before .before in
     let a = s .args in
     let all : l .loop .k ≡ a .used = omega arith in
-    leaf-all (a .rows .now) (a .sets) (a .arrangement) (a .terms) (a .used) (s .pre .1 .1) (s .pre .1 .0) (l .loop .masks) _ (l .loop .inv .2) (subst (λ n. RestZero n (l .loop .masks)) all (l .loop .inv .3))
-    (subst (λ n. MasksTo (a .rows .now) (a .sets) (take (a .terms) (a .arrangement)) n (l .loop .masks)) all (l .loop .inv .4)) refl
+    leaf-all (a .entries .now) (a .sets) (a .arrangement) (a .terms) (a .used) (s .pre .1 .1) (s .pre .1 .0) (l .loop .masks) _ (l .loop .inv .2) (subst (λ n. RestZero n (l .loop .masks)) all (l .loop .inv .3))
+    (subst (λ n. MasksTo (a .entries .now) (a .sets) (take (a .terms) (a .arrangement)) n (l .loop .masks)) all (l .loop .inv .4)) refl
 
 pub model-spec : {M : Type 1} → statement M
 model-spec =
@@ -60,7 +60,7 @@ model-spec =
     (tie.spec
     Inv-loop
     μ-loop
-    (λ c. let a = c .before .args in (refl, omega arith, refl, refl, no-masks-yet (a .rows .now) (a .sets) (take (a .terms) (a .arrangement)) (padded [])))
+    (λ c. let a = c .before .args in (refl, omega arith, refl, refl, no-masks-yet (a .entries .now) (a .sets) (take (a .terms) (a .arrangement)) (padded [])))
     (λ c. search needs)
     (λ c κs. c .before .before .before .pre .1 .1 .few-terms)
     (λ c. search needs)

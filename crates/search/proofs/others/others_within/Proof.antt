@@ -1,4 +1,4 @@
--- `others_within` walks the rows: what it has is enough for the rows passed.
+-- `others_within` walks the entries: what it has is enough for the rows of those passed.
 use Prim.Native.Nat.{_-_, _≤_}
 use native.Mathlib.Omega.{arith}
 use mathlib.Core.Logic.{⊎-elim}
@@ -9,16 +9,16 @@ use Rattle.search.proofs.others.others_within.Statement.{statement}
 use Rattle.search.proofs.others.others_within.Tie as tie
 
 abbrev Inv-loop : tie.InvT-loop
-Inv-loop rows n₀ i₀ n i = (i ≤ length rows) × Enough rows n i
+Inv-loop entries n₀ i₀ n i = (i ≤ length entries) × Enough entries n i
 
 abbrev μ-loop : tie.MeasureT-loop
-μ-loop rows n₀ i₀ n i = length rows - i
+μ-loop entries n₀ i₀ n i = length entries - i
 
 loop-again : tie.Need-loop-again Inv-loop μ-loop
 loop-again c =
     let l = c .before .before .before .before in (
       omega arith,
-      enough-turn (l .before .before .args .rows .now) (l .loop .n) (l .loop .i) (c .before .other-within .result) (c .if1 .n) (omega arith) (c .before .other-within .ensures)
+      enough-turn (l .before .before .args .entries .now) (l .loop .n) (l .loop .i) (c .before .other-within .result) (c .if1 .n) (omega arith) (c .before .other-within .ensures)
           (⊎-elim (λ w. omega arith) (λ w. omega arith) (c .if1 .came)) (⊎-elim (λ w. omega arith) (λ w. omega arith) (c .if1 .came)) (l .loop .inv .1),
     )
 
@@ -28,11 +28,12 @@ others-within-spec =
     (tie.spec
     Inv-loop
     μ-loop
-    (λ c. (omega arith, enough-start (c .before .args .rows .now)))
+    (λ c. (omega arith, enough-start (c .before .args .entries .now)))
+    (λ c. search needs)
     (λ c. search needs)
     (λ c. search needs)
     (λ c κs. search needs)
     (λ c. search needs)
     (λ c. search needs)
     loop-again
-    (λ c. enough-end (c .before .before .before .args .rows .now) (c .before .loop .n) (c .before .loop .i) (c .loop-test .left) (c .before .loop .inv .1)))
+    (λ c. enough-end (c .before .before .before .args .entries .now) (c .before .loop .n) (c .before .loop .i) (c .loop-test .left) (c .before .loop .inv .1)))

@@ -2,7 +2,6 @@
 -- what is found is what is found from there on, and the memo is right.
 use Prim.Native.Nat.{ℕ, suc, _+_, _-_, _≤_, _<_}
 use mathlib.Core.Path.{_≡_, sym, subst, _∙_}
-use mathlib.Core.List.{map}
 use native.Mathlib.Omega.{arith}
 use borrow.Author.Needs.{needs}
 use borrow.Fn.Kinds.{In}
@@ -11,7 +10,7 @@ use lib.Dec.{T}
 use Rattle.question.specs.Limits.{maxTerms}
 use Rattle.theory.specs.Solutions.{allRows}
 use Rattle.theory.specs.Sets.{rowDeclared}
-use Rattle.row.specs.Rows.{rowOf}
+use Rattle.mask.specs.Entries.{rowsOfEntries}
 use Rattle.search.specs.Answers.{answerOf}
 use Rattle.search.specs.Memos.{Memo}
 use Rattle.search.proofs.PlacingLaws.{placing-next}
@@ -32,10 +31,10 @@ abbrev μ-place : Measures 2 kinds.ps ℕ
 μ-place κs a = a .1 .1 .1 .1 .0
 
 abbrev Inv-loop : lts.InvT-loop
-Inv-loop rows memo₀ arrangement placed left used others sets c₀ memo c = (c ≤ suc used) × Before rows sets arrangement placed left used c × Memo rows sets memo
+Inv-loop entries memo₀ arrangement placed left used others sets c₀ memo c = (c ≤ suc used) × Before entries sets arrangement placed left used c × Memo entries sets memo
 
 abbrev μ-loop : lts.MeasureT-loop
-μ-loop rows memo₀ arrangement placed left used others sets c₀ memo c = suc used - c
+μ-loop entries memo₀ arrangement placed left used others sets c₀ memo c = suc used - c
 
 -- a call with t terms left, and what the calls inside it ask and tell
 module _ (t : ℕ) where
@@ -62,24 +61,24 @@ module _ (t : ℕ) where
   returns c =
       let told = c .before .before .before .before .hopeless .ensures in
       let a = c .before .before .before .before .before .before .before .before .args in
-      (answer-none (a .rows .now) (a .sets) (a .arrangement) (a .placed) (a .left) (a .used) (c .without-model .result) (c .without-model .ensures) (told .0 (c .before .if1 .taken)), told .1)
+      (answer-none (a .entries .now) (a .sets) (a .arrangement) (a .placed) (a .left) (a .used) (c .without-model .result) (c .without-model .ensures) (told .0 (c .before .if1 .taken)), told .1)
 
   model-requires : lts.Need-model-requires claims here place.Post Inv-loop μ-loop
   model-requires c κs =
       let s = c .before .before .before .before .before .before .before .before in
       let a = s .args in
-      (s .pre .1 .0 .few-sets, (subst (λ n. T (allRows (rowDeclared n (a .sets)) (map rowOf (a .rows .now)))) (none-left (a .placed) (a .left) (c .if2 .taken)) (s .pre .1 .1 .1 .0), s .pre .1 .0 .placing))
+      (s .pre .1 .0 .few-sets, (subst (λ n. T (allRows (rowDeclared n (a .sets)) (rowsOfEntries (a .entries .now)))) (none-left (a .placed) (a .left) (c .if2 .taken)) (s .pre .1 .1 .1 .0), s .pre .1 .0 .placing))
 
   returns-2 : lts.Need-returns-2 claims here place.Post Inv-loop μ-loop
   returns-2 c =
       let a = c .before .before .before .before .before .before .before .before .before .args in
-      (answer-whole (a .rows .now) (a .sets) (a .arrangement) (a .placed) (a .left) (a .used) (c .model .result) (c .before .if2 .taken) (c .model .ensures), c .before .before .before .before .before .hopeless .ensures .1)
+      (answer-whole (a .entries .now) (a .sets) (a .arrangement) (a .placed) (a .left) (a .used) (c .model .result) (c .before .if2 .taken) (c .model .ensures), c .before .before .before .before .before .hopeless .ensures .1)
 
   loop-holds : lts.Need-loop-holds claims here place.Post Inv-loop μ-loop
   loop-holds c =
       let s = c .before .before .before .before .before .before .before .before in
       let a = s .args in
-      (omega arith, before-first (a .rows .now) (a .sets) (a .arrangement) (a .placed) (a .left) (a .used) (s .pre .1 .0 .placing) (some-left (a .placed) (a .left) (c .if2 .left)), c .before .before .before .before .hopeless .ensures .1)
+      (omega arith, before-first (a .entries .now) (a .sets) (a .arrangement) (a .placed) (a .left) (a .used) (s .pre .1 .0 .placing) (some-left (a .placed) (a .left) (c .if2 .left)), c .before .before .before .before .hopeless .ensures .1)
 
   -- the state at the call's start, seen from its loop
   abbrev start : lts.At-loop claims here place.Post Inv-loop μ-loop → lts.Start claims here place.Post Inv-loop μ-loop
@@ -105,25 +104,25 @@ module _ (t : ℕ) where
             remembered = l .loop .inv .2;
             placing = placing-next (s .pre .1 .0 .placing) (l .loop .c) (room-here l) (c .before .classes-with .result) (allowed (c .before .before)) (c .before .classes-with .ensures);
           },
-          (subst (λ n. n ≤ maxTerms) all (s .pre .1 .1 .0), (subst (λ n. T (allRows (rowDeclared n (a .sets)) (map rowOf (a .rows .now)))) all (s .pre .1 .1 .1 .0), s .pre .1 .1 .1 .1)),
+          (subst (λ n. n ≤ maxTerms) all (s .pre .1 .1 .0), (subst (λ n. T (allRows (rowDeclared n (a .sets)) (rowsOfEntries (a .entries .now)))) all (s .pre .1 .1 .1 .0), s .pre .1 .1 .1 .1)),
         ),
       )
 
   -- what the call with the next term in the class c found
   called : (c : lts.After-place claims here place.Post Inv-loop μ-loop) → let l = c .before .before .before .before in let a = start l .args in
-      c .place .result ≡ answerOf (foundIn (a .rows .now) (a .sets) (a .arrangement) (a .placed) (a .left) (a .used) (l .loop .c))
+      c .place .result ≡ answerOf (foundIn (a .entries .now) (a .sets) (a .arrangement) (a .placed) (a .left) (a .used) (l .loop .c))
   called c =
       let l = c .before .before .before .before in
       let s = start l in
       let a = s .args in
-      answer-next (a .rows .now) (a .sets) (a .arrangement) (a .placed) (a .left) (a .used) (s .pre .1 .0 .placing) (l .loop .c) (c .place .result) (room-here l) (c .place .ensures .0)
+      answer-next (a .entries .now) (a .sets) (a .arrangement) (a .placed) (a .left) (a .used) (s .pre .1 .0 .placing) (l .loop .c) (c .place .result) (room-here l) (c .place .ensures .0)
 
   returns-3 : lts.Need-returns-3 claims here place.Post Inv-loop μ-loop
   returns-3 c =
       let call = c .before .before .before .before in
       let l = call .before .before .before .before in
       let a = start l .args in (
-        class-hit (a .rows .now) (a .sets) (a .arrangement) (a .placed) (a .left) (a .used) (l .loop .c) (call .place .result) (allowed (call .before .before .before)) (called call) (l .loop .inv .1)
+        class-hit (a .entries .now) (a .sets) (a .arrangement) (a .placed) (a .left) (a .used) (l .loop .c) (call .place .result) (allowed (call .before .before .before)) (called call) (l .loop .inv .1)
             (c .before .is-possible .result) (c .before .is-possible .ensures) (c .if3 .taken),
         call .place .ensures .1,
       )
@@ -134,7 +133,7 @@ module _ (t : ℕ) where
       let l = call .before .before .before .before in
       let a = start l .args in (
         omega arith,
-        class-miss (a .rows .now) (a .sets) (a .arrangement) (a .placed) (a .left) (a .used) (l .loop .c) (call .place .result) (allowed (call .before .before .before)) (called call) (l .loop .inv .1)
+        class-miss (a .entries .now) (a .sets) (a .arrangement) (a .placed) (a .left) (a .used) (l .loop .c) (call .place .result) (allowed (call .before .before .before)) (called call) (l .loop .inv .1)
             (c .before .is-possible .result) (c .before .is-possible .ensures) (c .if3 .left),
         call .place .ensures .1,
       )
@@ -143,7 +142,7 @@ module _ (t : ℕ) where
   returns-4 c =
       let l = c .before .before in
       let a = start l .args in
-      (answer-none (a .rows .now) (a .sets) (a .arrangement) (a .placed) (a .left) (a .used) (c .without-model2 .result) (c .without-model2 .ensures) (class-end (a .rows .now) (a .sets) (a .arrangement) (a .placed) (a .left) (a .used) (l .loop .c) (c .before .loop-test .left) (l .loop .inv .1)), l .loop .inv .2)
+      (answer-none (a .entries .now) (a .sets) (a .arrangement) (a .placed) (a .left) (a .used) (c .without-model2 .result) (c .without-model2 .ensures) (class-end (a .entries .now) (a .sets) (a .arrangement) (a .placed) (a .left) (a .used) (l .loop .c) (c .before .loop-test .left) (l .loop .inv .1)), l .loop .inv .2)
 
 pub +place-spec : {M : Type 1} → statement M
 +place-spec =

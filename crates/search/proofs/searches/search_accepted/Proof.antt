@@ -1,34 +1,36 @@
--- `search_accepted` starts with no term placed and nothing noted: what is found there is the first model.
-use Prim.Native.Nat.{_+_}
-use mathlib.Core.Path.{_≡_, subst}
-use mathlib.Core.List.{map}
-use native.Mathlib.Omega.{arith}
+-- `search_accepted` searches entries that say the rows: they have the same first model.
+use mathlib.Core.Path.{sym, subst}
 use borrow.Author.Needs.{needs}
 use lib.Dec.{T}
-use Rattle.theory.specs.Solutions.{allRows}
+use lib.Seq.{length-take-le}
 use Rattle.theory.specs.Sets.{rowDeclared}
-use Rattle.row.specs.Rows.{rowOf}
 use Rattle.row.proofs.AcceptedRows.{rows-keep, all-declared}
-use Rattle.search.proofs.PlacingLaws.{placing-start}
-use Rattle.search.proofs.MemoLaws.{memo-start}
-use Rattle.search.proofs.SearchedLaws.{answer-first}
+use Rattle.search.proofs.SearchedLaws.{answer-same}
 use Rattle.search.proofs.searches.search_accepted.Statement.{statement}
 use Rattle.search.proofs.searches.search_accepted.Tie as tie
 
-place-requires : tie.Need-place-requires
-place-requires c κs =
-    let s = c .before .before .before in
+gather-requires : tie.Need-gather-requires
+gather-requires c κs = let s = c .before .before in rows-keep (s .args .terms) (s .args .sets) (s .args .rows .now) (s .pre) .few-rows
+
+search-entries-requires : tie.Need-search-entries-requires
+search-entries-requires c κs =
+    let s = c .before .before .before .before .before in
     let a = s .args in
     let kept = rows-keep (a .terms) (a .sets) (a .rows .now) (s .pre) in
-    let all : a .terms ≡ 0 + a .terms = omega arith in (
-      record { few-sets = kept .few-sets; remembered = memo-start (a .rows .now) (a .sets); placing = placing-start },
-      (omega (arith, kept .few-terms), (subst (λ n. T (allRows (rowDeclared n (a .sets)) (map rowOf (a .rows .now)))) all (all-declared (a .terms) (a .sets) (a .rows .now) (kept .all-good)), c .before .others-within .ensures)),
-    )
+    ((kept .few-terms, kept .few-sets), subst T (sym (c .before .before .gather .ensures .0 .says (rowDeclared (a .terms) (a .sets)))) (all-declared (a .terms) (a .sets) (a .rows .now) (kept .all-good)))
 
 returns : tie.Need-returns
 returns c =
-    let a = c .before .before .before .before .before .args in
-    answer-first (a .terms) (a .sets) (a .rows .now) (c .before .place .result) (c .before .place .ensures .0)
+    let a = c .before .before .before .before .before .before .args in
+    answer-same (a .terms) (a .sets) (a .rows .now) _ _ (c .before .before .before .gather .ensures .0) (c .search-entries .result) (c .search-entries .ensures)
 
 pub search-accepted-spec : {M : Type 1} → statement M
-search-accepted-spec = tie.close (tie.spec (λ c κs. search needs) (λ c. search needs) place-requires returns)
+search-accepted-spec =
+    tie.close
+    (tie.spec
+    (λ c. search needs)
+    gather-requires
+    (λ c. search needs)
+    (λ c. sym (length-take-le _ _ (c .before .before .gather .ensures .0 .few)))
+    search-entries-requires
+    returns)

@@ -1,0 +1,81 @@
+-- The rows of an entry: when a walk over them passes, and that one test is that of all.
+use Prim.Native.Nat.{ℕ, zero, suc, _+_, _^_, _≤_, _<_}
+use mathlib.Core.Path.{_≡_, refl, sym, ap, subst, _∙_}
+use mathlib.Core.Logic.{_≢_}
+use mathlib.Core.Bool.{Bool, true, false, not, _&&_, _||_, cond, true≢false}
+use mathlib.Core.List.{_∷_}
+use native.Mathlib.Omega.{arith}
+use native.Mathlib.Decide.{ℕ-discrete}
+use lib.Bits.{bitAnd, and-le-l}
+use Rattle.question.specs.Masks.{bit}
+use Rattle.question.proofs.TestLaws.{same-test}
+use Rattle.theory.specs.Rules.{Row, row}
+use Rattle.theory.specs.Sets.{Test}
+use Rattle.theory.specs.Solutions.{allRows}
+use Rattle.mask.specs.InForce.{meetsInForce}
+use Rattle.mask.specs.Entries.{termRoom, testIn, termsIn, rowsFor, rowsOfEntry}
+use Rattle.mask.specs.Tests.{passesInForce}
+use Rattle.mask.proofs.BitLaws.{both-true, bit-and, bit-both, bit-of-zero, some-bit}
+
+-- the walk over the rows of some terms passes exactly if each of them does
+module _ (f : Row Test → Bool) (t : Test) where
+  pub rows-pass : (n c terms : ℕ) → ((d : ℕ) → c ≤ d → d < c + n → bit terms d ≡ true → f (row d t) ≡ true) → allRows f (rowsFor n c terms t) ≡ true
+  rows-pass zero c terms h = refl
+  rows-pass (suc n) c terms h = go (rows-pass n (suc c) terms (λ d lo hi b. h d (omega arith) (omega arith) b)) (bit terms c) refl
+    where
+      go : allRows f (rowsFor n (suc c) terms t) ≡ true → (b : Bool) → bit terms c ≡ b → allRows f (cond b (row c t ∷ rowsFor n (suc c) terms t) (rowsFor n (suc c) terms t)) ≡ true
+      go later true e = ap (λ b. b && allRows f (rowsFor n (suc c) terms t)) (h c (omega arith) (omega arith) e) ∙ later
+      go later false e = later
+
+  pub rows-each : (n c terms : ℕ) → allRows f (rowsFor n c terms t) ≡ true → (d : ℕ) → c ≤ d → d < c + n → bit terms d ≡ true → f (row d t) ≡ true
+  rows-each zero c terms h d lo hi b = absurd (omega arith)
+  rows-each (suc n) c terms h d lo hi b = go (λ k ne. rows-each n (suc c) terms k d (omega arith) (omega arith) b) (ℕ-discrete d c) (bit terms c) refl h
+    where
+      go : (allRows f (rowsFor n (suc c) terms t) ≡ true → d ≢ c → f (row d t) ≡ true) → Dec (d ≡ c) → (x : Bool) → bit terms c ≡ x →
+          allRows f (cond x (row c t ∷ rowsFor n (suc c) terms t) (rowsFor n (suc c) terms t)) ≡ true → f (row d t) ≡ true
+      go later (yes e) true q k = subst (λ i. f (row i t) ≡ true) (sym e) (both-true (f (row c t)) (allRows f (rowsFor n (suc c) terms t)) k .0)
+      go later (yes e) false q k = absurd (true≢false (sym b ∙ ap (bit terms) e ∙ q))
+      go later (no ne) true q k = later (both-true (f (row c t)) (allRows f (rowsFor n (suc c) terms t)) k .1) ne
+      go later (no ne) false q k = later k ne
+
+-- a test that every row of the entry passes
+pub entry-pass : (f : Row Test → Bool) (e : ℕ) → ((c : ℕ) → f (row c (testIn e)) ≡ true) → allRows f (rowsOfEntry e) ≡ true
+unfolding rowsOfEntry
+entry-pass f e h = rows-pass f (testIn e) termRoom 0 (termsIn e) (λ d lo hi b. h d)
+
+-- rows that are passed over where their term is not in the class, and else all say P
+module _ (class : ℕ) (P : Bool) (t : Test) (f : Row Test → Bool) (f-is : (c : ℕ) → f (row c t) ≡ (not (bit class c) || P)) (terms : ℕ) where
+  -- where no term of the set is in the class, they pass
+  apart : bitAnd terms class ≡ 0 → allRows f (rowsFor termRoom 0 terms t) ≡ true
+  apart e = rows-pass f t termRoom 0 terms (λ d lo hi b. f-is d ∙ go d (bit class d) refl b)
+    where
+      go : (d : ℕ) (x : Bool) → bit class d ≡ x → bit terms d ≡ true → (not x || P) ≡ true
+      go d true q b = absurd (true≢false (sym (ap (λ x. x && bit class d) b ∙ q) ∙ sym (bit-and terms class d) ∙ ap (λ i. bit i d) e ∙ bit-of-zero d))
+      go d false q b = refl
+
+  -- else they say P
+  meet : terms < 2 ^ termRoom → bitAnd terms class ≢ 0 → allRows f (rowsFor termRoom 0 terms t) ≡ P
+  meet small ne = same-test (allRows f (rowsFor termRoom 0 terms t)) P to from
+    where
+      to : allRows f (rowsFor termRoom 0 terms t) ≡ true → P ≡ true
+      to h = let s = some-bit termRoom (bitAnd terms class) (omega (arith, and-le-l terms class)) ne in
+          let both = bit-both terms class (s .0) (s .2) in
+          sym (ap (λ x. not x || P) (both .1)) ∙ sym (f-is (s .0)) ∙ rows-each f t termRoom 0 terms h (s .0) (omega arith) (omega (arith, s .1)) (both .0)
+
+      always : (x : Bool) → (x || true) ≡ true
+      always true = refl
+      always false = refl
+
+      from : P ≡ true → allRows f (rowsFor termRoom 0 terms t) ≡ true
+      from e = rows-pass f t termRoom 0 terms (λ d lo hi b. f-is d ∙ ap (λ p. not (bit class d) || p) e ∙ always (not (bit class d)))
+
+module _ (class n m e : ℕ) where
+  -- no term of the entry is in the class
+  pub entry-apart : bitAnd (termsIn e) class ≡ 0 → allRows (meetsInForce class n m) (rowsOfEntry e) ≡ true
+  unfolding rowsOfEntry
+  entry-apart = apart class (passesInForce class n m (testIn e)) (testIn e) (meetsInForce class n m) (λ c. refl) (termsIn e)
+
+  -- some is: one test is that of all
+  pub entry-meets : bitAnd (termsIn e) class ≢ 0 → allRows (meetsInForce class n m) (rowsOfEntry e) ≡ passesInForce class n m (testIn e)
+  unfolding rowsOfEntry
+  entry-meets = meet class (passesInForce class n m (testIn e)) (testIn e) (meetsInForce class n m) (λ c. refl) (termsIn e) (omega arith)
