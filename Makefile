@@ -1,12 +1,70 @@
-# `make` proves every crate and runs the programs; `make test` is the gate.
+# make            proves what the library and the program need, and builds both
+# make example    decides case I and two versions of a trimming step, and prints the answers in words
+# make test       the gate: all crates from nothing, every must-fail edit, and the tests through C
+# make memcheck   a part of the damaged files under valgrind, on x86-64 only
+# make install    header, archive, program and pkg-config file, below PREFIX (and that below DESTDIR)
+# make clean      removes what was built
 ifeq ($(shell command -v rt 2>/dev/null),)
 $(error The Rattle kit is missing: its command rt is not on the PATH)
 endif
 
-.PHONY: all test
+PREFIX = /usr/local
+VERSION = 1.0
+CFLAGS = -std=c99 -O2 -Wall -Wextra
 
-all:
-	rt check
+archive = target/staticlib/libsayfudhoum.a
+program = target/bin/decide
+place = $(DESTDIR)$(abspath $(PREFIX))
+
+.PHONY: all library program example test memcheck install clean
+
+all: program library
+
+library:
+	rt staticlib sayfudhoum
+
+program:
+	rt check decide
+
+example: library
+	@mkdir -p target/c
+	@for name in case_i trimming; do echo; \
+	    tests/x86-64 cc $(CFLAGS) -Iinclude -o target/c/$$name examples/$$name.c examples/model.c $(archive) && \
+	    tests/x86-64 run target/c/$$name || exit; \
+	done
 
 test:
 	.ci/run
+
+ifeq ($(shell uname -m),x86_64)
+memcheck: library
+	mkdir -p target/c
+	cc -std=c99 -g -O1 -Iinclude -o target/c/memcheck $(addprefix tests/,bad_input.c files.c reader.c heap_slices.c solver.c table.c) $(archive)
+	valgrind --error-exitcode=1 target/c/memcheck 50
+else
+memcheck:
+	@echo 'make memcheck runs on x86-64 only: valgrind runs a program on its own processor'; exit 1
+endif
+
+define pkgconfig
+prefix=$(abspath $(PREFIX))
+includedir=$${prefix}/include
+libdir=$${prefix}/lib
+
+Name: sayfudhoum
+Description: Decides whether flat statements about elements and sets can all hold
+Version: $(VERSION)
+Cflags: -I$${includedir}
+Libs: -L$${libdir} -lsayfudhoum
+endef
+export pkgconfig
+
+install: all
+	install -d $(place)/include $(place)/lib/pkgconfig $(place)/bin
+	install -m 644 include/sayfudhoum.h $(place)/include
+	install -m 644 $(archive) $(place)/lib
+	install -m 755 $(program) $(place)/bin
+	printf '%s\n' "$$pkgconfig" >$(place)/lib/pkgconfig/sayfudhoum.pc
+
+clean:
+	rm -rf target

@@ -1,0 +1,123 @@
+/*
+ * Sayfudhoum: can these statements about elements and sets all hold?
+ *
+ * A question declares E element names and S set names and states up to 64 flat statements about
+ * them, of eleven kinds. Its answer is "impossible" (no assignment over any finite domain meets the
+ * statements) or "possible" with the first model. Both are files of bytes; docs/FORMAT.md has the
+ * format, docs/C.md a guide, and examples/ two programs.
+ *
+ * For both functions:
+ * - They are total: any bytes of any length may be handed in. What is wrong is refused by a number.
+ * - They allocate nothing, keep no state and write nothing but what is said below. Several threads
+ *   may call them at the same time, with buffers of their own.
+ * - A call needs at most 32 KiB of stack, whatever the question.
+ * - A pointer must not be null, and the bytes that it is given with must be there: question_length
+ *   bytes that can be read, answer_length bytes that can be written. A length may be 0; the pointer
+ *   must not be null even then.
+ * - Question and answer must not overlap, and nobody else may write to either during the call.
+ *
+ * The library is for x86-64 Linux, and links with no other library. C99 or C++11.
+ */
+#ifndef SAYFUDHOUM_H
+#define SAYFUDHOUM_H
+
+#include <stddef.h>
+#include <stdint.h>
+
+#ifdef __cplusplus
+extern "C" {
+#endif
+
+/* Limits of a question. */
+#define SAYFUDHOUM_MAX_ELEMENTS 8    /* element names, E */
+#define SAYFUDHOUM_MAX_SETS 16       /* set names, S */
+#define SAYFUDHOUM_MAX_STATEMENTS 64 /* statements */
+#define SAYFUDHOUM_MAX_TERMS 12      /* element names and statements x != y together, T */
+
+/* The longest question file, and the longest answer: a buffer of so many bytes is never too short. */
+#define SAYFUDHOUM_MAX_QUESTION_LENGTH 392
+#define SAYFUDHOUM_MAX_ANSWER_LENGTH 49
+
+/*
+ * Tags. A field is its tag, the length of its body in two bytes with the high byte first, and the
+ * body, in which each name is one byte. a and b are element names, x, y and z set names.
+ */
+#define SAYFUDHOUM_TAG_NAMES 0x01           /* E S, the first field of a question */
+#define SAYFUDHOUM_TAG_ELEMENTS_EQUAL 0x10  /* a b: a = b */
+#define SAYFUDHOUM_TAG_ELEMENTS_DIFFER 0x11 /* a b: a != b */
+#define SAYFUDHOUM_TAG_IN 0x12              /* a x: a in x */
+#define SAYFUDHOUM_TAG_NOT_IN 0x13          /* a x: a not in x */
+#define SAYFUDHOUM_TAG_SETS_EQUAL 0x20      /* x y: x = y */
+#define SAYFUDHOUM_TAG_SETS_DIFFER 0x21     /* x y: x != y */
+#define SAYFUDHOUM_TAG_EMPTY 0x22           /* x: x empty */
+#define SAYFUDHOUM_TAG_SINGLE 0x23          /* x a: x = {a} */
+#define SAYFUDHOUM_TAG_UNION 0x30           /* x y z: x is the union of y and z */
+#define SAYFUDHOUM_TAG_INTERSECTION 0x31    /* x y z: x is the intersection of y and z */
+#define SAYFUDHOUM_TAG_DIFFERENCE 0x32      /* x y z: x is y without z */
+#define SAYFUDHOUM_TAG_VERDICT 0x40         /* 1 possible, 0 impossible; the first field of an answer */
+#define SAYFUDHOUM_TAG_CLASSES 0x41         /* a class number for each of the T terms */
+#define SAYFUDHOUM_TAG_MASKS 0x42           /* two bytes for each class, high byte first: bit x is set x */
+#define SAYFUDHOUM_TAG_REFUSAL 0x44         /* what the program decide writes of a refused question */
+#define SAYFUDHOUM_TAG_END 0x7F             /* no body, the last field of every file */
+
+/*
+ * Refusal numbers. A file is read from left to right, and the first thing that is wrong is told. In
+ * one field they come in the order 1 (the field's head of three bytes), 2, 3, 4, 1 (its body), then
+ * 5 for the names, 7, 6, 8 for a statement; behind the end 9. The place is that of the field's first
+ * byte, counted from 0 (for 1 where no byte is left, the length of the data), for 9 that of the first
+ * extra byte, for 10 it is 0.
+ */
+#define SAYFUDHOUM_DATA_ENDS 1           /* the data ends within a field or before the end field */
+#define SAYFUDHOUM_TAG_UNKNOWN 2         /* a question file doesn't know the tag */
+#define SAYFUDHOUM_TAG_OUT_OF_PLACE 3    /* the names not first, or again */
+#define SAYFUDHOUM_WRONG_LENGTH 4        /* the length is not that of the tag */
+#define SAYFUDHOUM_TOO_MANY_NAMES 5      /* E above 8, or S above 16 */
+#define SAYFUDHOUM_NAME_NOT_DECLARED 6   /* a name not below E, or S */
+#define SAYFUDHOUM_TOO_MANY_STATEMENTS 7 /* the 65th statement */
+#define SAYFUDHOUM_TOO_MANY_TERMS 8      /* this statement x != y would make T more than 12 */
+#define SAYFUDHOUM_BYTES_AFTER_END 9     /* bytes follow the end field */
+#define SAYFUDHOUM_BUFFER_TOO_SHORT 10   /* the buffer is shorter than this very answer */
+/* The last two are the project's, but neither function below ever gives them. */
+#define SAYFUDHOUM_BAD_MODEL 11 /* a bad model or answer was handed in */
+#define SAYFUDHOUM_BAD_ROW 12   /* a bad row was handed in */
+
+/*
+ * Decides the question in question[0 .. question_length - 1] and writes its answer to the start of
+ * answer.
+ *
+ * Result: one number; take it apart by sayfudhoum_refusal and sayfudhoum_rest.
+ *   lowest byte 0: decided. The rest is the count of bytes written: 7 if impossible; if possible
+ *     13 + T + 2n, where n is the number of classes, at most T; so at most 49.
+ *   lowest byte 1 to 9: the question is refused by this number. The rest is the place.
+ *   lowest byte 10: the question was decided, and answer_length is less than the length of this very
+ *     answer. The rest is 0. It comes last: a refused question is never refused by 10.
+ *
+ * Written: if decided, the answer, and nothing behind it: the bytes of the buffer past the answer
+ * keep their values. If refused, nothing: the whole buffer keeps its values. The question is only
+ * read, and nothing outside the two slices is touched.
+ */
+uint64_t sayfudhoum_answer(const uint8_t *question, size_t question_length,
+                           uint8_t *answer, size_t answer_length);
+
+/*
+ * Decides the question in question[0 .. question_length - 1] and writes nothing.
+ *
+ * Result: one number, as above.
+ *   lowest byte 0: decided. The rest is 1 if possible, 0 if impossible. So 0 is impossible, 256
+ *     possible, and every other number a refusal.
+ *   lowest byte 1 to 9: the question is refused by this number, at the place that is the rest; the
+ *     same as sayfudhoum_answer would give.
+ */
+uint64_t sayfudhoum_verdict(const uint8_t *question, size_t question_length);
+
+/* The refusal number in a result, or 0 if the question was decided. */
+static inline unsigned sayfudhoum_refusal(uint64_t result) { return result & 0xFF; }
+
+/* The rest of a result: the place if refused, else the count of bytes written, or the verdict. */
+static inline size_t sayfudhoum_rest(uint64_t result) { return result >> 8; }
+
+#ifdef __cplusplus
+}
+#endif
+
+#endif

@@ -1,0 +1,65 @@
+/*
+ * The header by itself, first and twice, as C99 and as C++11: its constants are document 01's
+ * numbers, both functions link, and a result comes apart.
+ */
+#include "sayfudhoum.h"
+#include "sayfudhoum.h"
+
+/* Each line fails to compile if its constant is another number, or no constant. */
+#define SAME(name, number) typedef char same_##name[SAYFUDHOUM_##name == (number) ? 1 : -1]
+
+SAME(MAX_ELEMENTS, 8);
+SAME(MAX_SETS, 16);
+SAME(MAX_STATEMENTS, 64);
+SAME(MAX_TERMS, 12);
+SAME(MAX_QUESTION_LENGTH, 5 + 64 * 6 + 3);
+SAME(MAX_ANSWER_LENGTH, 4 + (3 + 12) + (3 + 24) + 3);
+SAME(TAG_NAMES, 1);
+SAME(TAG_ELEMENTS_EQUAL, 16);
+SAME(TAG_ELEMENTS_DIFFER, 17);
+SAME(TAG_IN, 18);
+SAME(TAG_NOT_IN, 19);
+SAME(TAG_SETS_EQUAL, 32);
+SAME(TAG_SETS_DIFFER, 33);
+SAME(TAG_EMPTY, 34);
+SAME(TAG_SINGLE, 35);
+SAME(TAG_UNION, 48);
+SAME(TAG_INTERSECTION, 49);
+SAME(TAG_DIFFERENCE, 50);
+SAME(TAG_VERDICT, 64);
+SAME(TAG_CLASSES, 65);
+SAME(TAG_MASKS, 66);
+SAME(TAG_REFUSAL, 68);
+SAME(TAG_END, 127);
+SAME(DATA_ENDS, 1);
+SAME(TAG_UNKNOWN, 2);
+SAME(TAG_OUT_OF_PLACE, 3);
+SAME(WRONG_LENGTH, 4);
+SAME(TOO_MANY_NAMES, 5);
+SAME(NAME_NOT_DECLARED, 6);
+SAME(TOO_MANY_STATEMENTS, 7);
+SAME(TOO_MANY_TERMS, 8);
+SAME(BYTES_AFTER_END, 9);
+SAME(BUFFER_TOO_SHORT, 10);
+SAME(BAD_MODEL, 11);
+SAME(BAD_ROW, 12);
+
+int main(void)
+{
+    /* Case A, where nothing is declared or stated: possible, and its answer has 13 bytes. */
+    static const uint8_t question[] = {SAYFUDHOUM_TAG_NAMES, 0, 2, 0, 0, SAYFUDHOUM_TAG_END, 0, 0};
+    uint8_t answer[SAYFUDHOUM_MAX_ANSWER_LENGTH];
+    uint64_t result = sayfudhoum_answer(question, sizeof question, answer, sizeof answer);
+    if (sayfudhoum_refusal(result) != 0 || sayfudhoum_rest(result) != 13)
+        return 1;
+    if (sayfudhoum_verdict(question, sizeof question) != 256)
+        return 1;
+
+    /* A result with every bit in use: the largest place and the largest refusal number. */
+    if (sayfudhoum_refusal(UINT64_MAX) != 255 || sayfudhoum_rest(UINT64_MAX) != UINT64_MAX / 256)
+        return 1;
+
+    /* Without its last byte the file ends within the field at 5. */
+    result = sayfudhoum_verdict(question, sizeof question - 1);
+    return sayfudhoum_refusal(result) == SAYFUDHOUM_DATA_ENDS && sayfudhoum_rest(result) == 5 ? 0 : 1;
+}

@@ -1,0 +1,24 @@
+/*
+ * Slices to lend to the library, with no memory to touch beside them: each stands at an edge of an
+ * area between two pages that can be neither read nor written. The bytes of the area beside a buffer,
+ * and those in it, have known values, so that a byte written there is seen.
+ */
+#ifndef SLICES_H
+#define SLICES_H
+
+#include <stddef.h>
+#include <stdint.h>
+
+enum { LONGEST_SLICE = 65536 };
+
+/* A copy of the bytes whose last one stands right before a page that can't be read. */
+const uint8_t *lend_question(const uint8_t *bytes, size_t length);
+
+/* A buffer right behind such a page, or right before one. */
+enum edge { BEHIND_PAGE, BEFORE_PAGE };
+uint8_t *lend_buffer(size_t length, enum edge edge);
+
+/* Whether all bytes around the last buffer, and those in it after the first so many, are as they were. */
+int untouched_after(size_t count);
+
+#endif

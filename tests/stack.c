@@ -1,0 +1,88 @@
+/*
+ * How much stack the two functions touch. Each is called in a thread whose stack was painted, and then
+ * the lowest byte that has lost its paint is looked for. The header promises 32 KiB at most.
+ */
+#define _POSIX_C_SOURCE 200809L /* pthread_attr_setstack */
+#include "files.h"
+#include "sayfudhoum.h"
+#include "table.h"
+
+#include <pthread.h>
+#include <stdio.h>
+#include <stdlib.h>
+#include <string.h>
+
+enum { PROMISED = 32 * 1024, STACK = 128 * 1024, PAINT = 0xC3, RANDOM_FILES = 300 };
+
+enum function { ANSWER, VERDICT, FUNCTIONS };
+
+struct call {
+    enum function function;
+    const struct file *file;
+    uintptr_t top; /* the caller's place on the stack */
+};
+
+static void *run(void *argument)
+{
+    struct call *call = argument;
+    uint8_t answer[SAYFUDHOUM_MAX_ANSWER_LENGTH];
+    call->top = (uintptr_t)answer;
+    if (call->function == ANSWER)
+        sayfudhoum_answer(call->file->bytes, call->file->length, answer, sizeof answer);
+    else
+        sayfudhoum_verdict(call->file->bytes, call->file->length);
+    return NULL;
+}
+
+/* The bytes between the caller's place and the lowest byte that was touched. */
+static size_t touched(enum function function, const struct file *file)
+{
+    static uint8_t *stack;
+    if (stack == NULL)
+        stack = malloc(STACK);
+    struct call call = {function, file, 0};
+    pthread_attr_t attributes;
+    pthread_t thread;
+    if (stack == NULL || pthread_attr_init(&attributes) != 0 || pthread_attr_setstack(&attributes, stack, STACK) != 0)
+        exit(2);
+    memset(stack, PAINT, STACK);
+    if (pthread_create(&thread, &attributes, run, &call) != 0)
+        exit(2);
+    pthread_join(thread, NULL);
+    pthread_attr_destroy(&attributes);
+
+    size_t lowest = 0;
+    while (stack[lowest] == PAINT)
+        lowest++;
+    return call.top - (uintptr_t)(stack + lowest);
+}
+
+static size_t most[FUNCTIONS];
+
+static void measure(const struct file *file)
+{
+    for (int function = 0; function < FUNCTIONS; function++) {
+        size_t bytes = touched((enum function)function, file);
+        if (bytes > most[function])
+            most[function] = bytes;
+    }
+}
+
+int main(void)
+{
+    struct file file;
+    for (size_t i = 0; i < HEAVY_FILES; i++) {
+        heavy_file(i, &file);
+        measure(&file);
+    }
+    for (size_t i = 0; i < EXAMPLES; i++) {
+        file.length = from_hex(examples[i].question, file.bytes);
+        measure(&file);
+    }
+    for (size_t i = 0; i < RANDOM_FILES; i++) {
+        random_file(&file);
+        measure(&file);
+    }
+    printf("bytes of stack: sayfudhoum_answer %zu, sayfudhoum_verdict %zu\n", most[ANSWER], most[VERDICT]);
+    return most[ANSWER] > PROMISED || most[VERDICT] > PROMISED;
+}

@@ -1,0 +1,20 @@
+/* Cases A to N of document 01 and one with the longest answer, as bytes in hexadecimal. */
+#ifndef TABLE_H
+#define TABLE_H
+
+#include <stddef.h>
+#include <stdint.h>
+
+struct example {
+    const char *name;
+    const char *question; /* in hexadecimal, with spaces between the bytes */
+    const char *answer;
+};
+
+enum { EXAMPLES = 15 };
+extern const struct example examples[EXAMPLES];
+
+/* Reads bytes in hexadecimal into a buffer that is long enough; gives their count. */
+size_t from_hex(const char *text, uint8_t *bytes);
+
+#endif
