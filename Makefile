@@ -17,6 +17,7 @@ program = target/bin/decide
 place = $(DESTDIR)$(abspath $(PREFIX))
 
 .PHONY: all library program example test memcheck install clean
+.NOTPARALLEL:
 
 all: program library
 
@@ -43,7 +44,7 @@ memcheck: library
 	valgrind --error-exitcode=1 target/c/memcheck 50
 else
 memcheck:
-	@echo 'make memcheck runs on x86-64 only: valgrind runs a program on its own processor'; exit 1
+	$(error make memcheck needs an x86-64 machine, since valgrind emulates no other processor)
 endif
 
 define pkgconfig

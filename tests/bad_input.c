@@ -226,7 +226,23 @@ static void try_fields(const struct file *file)
     }
 }
 
-/* More statements than there may be, sound ones and one that isn't, and bytes without end. */
+/* A field with each tag and a name that may not be declared, at the end of statements that are as many as may be, or more. */
+static void try_many(uint8_t tag_of_all, uint8_t least, uint8_t most)
+{
+    for (uint8_t count = least; count <= most; count++)
+        for (unsigned tag = 0; tag < 256; tag++)
+            for (uint8_t name = 1; name <= 2; name++) {
+                struct file file = {{0}, 0};
+                put_field(&file, 0x01, 2, 2, 2, 0);
+                for (uint8_t i = 0; i < count; i++)
+                    put_field(&file, tag_of_all, 2, 0, 1, 0);
+                put_field(&file, (uint8_t)tag, 2, name, 0, 0);
+                put_field(&file, 0x7F, 0, 0, 0, 0);
+                try_file(&file);
+            }
+}
+
+/* As many bytes as a slice has here, all the same. */
 static void try_long(void)
 {
     static uint8_t bytes[LONGEST_SLICE];
@@ -234,16 +250,6 @@ static void try_long(void)
         memset(bytes, (int)value, sizeof bytes);
         try_bytes(bytes, sizeof bytes);
     }
-    for (uint8_t count = 62; count < 68; count++)
-        for (unsigned tag = 0; tag < 256; tag++) {
-            struct file file = {{0}, 0};
-            put_field(&file, 0x01, 2, 1, 1, 0);
-            for (uint8_t i = 0; i < count; i++)
-                put_field(&file, 0x31, 3, 0, 0, 0);
-            put_field(&file, (uint8_t)tag, 2, 1, 0, 0);
-            put_field(&file, 0x7F, 0, 0, 0, 0);
-            try_file(&file);
-        }
 }
 
 /* One byte changed, left out or put in, or a length changed, at a place drawn at random. */
@@ -303,6 +309,8 @@ int main(int argc, char **argv)
         try_lengths(&file);
         try_bits(&file);
     }
+    try_many(0x20, 63, 65); /* the 64th statement, and the next two */
+    try_many(0x21, 9, 11);  /* the tenth witness beside two names, and the next two */
     try_long();
     try_random(20000);
     printf("%lu files: %lu refused, %lu possible, %lu impossible; %lu compared with every arrangement\n", tried, refused,
