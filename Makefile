@@ -37,10 +37,11 @@ example: library
 test:
 	.ci/run
 
+memcheck_sources = bad_input damage files heap_slices reader solver table
 ifeq ($(shell uname -m),x86_64)
 memcheck: library
 	mkdir -p target/c
-	cc -std=c99 -g -O1 -Iinclude -o target/c/memcheck $(addprefix tests/,bad_input.c files.c reader.c heap_slices.c solver.c table.c) $(archive)
+	cc -std=c99 -g -O1 -Iinclude -o target/c/memcheck $(memcheck_sources:%=tests/%.c) $(archive)
 	valgrind --error-exitcode=1 target/c/memcheck 50
 else
 memcheck:

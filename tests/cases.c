@@ -1,6 +1,7 @@
 /*
- * Cases A to N, and the longest answer, through both functions. The buffer is exactly long enough, or longer, and the bytes
- * past the answer keep their values; or too short, and the call is refused by 10 and writes nothing.
+ * Cases A to N, and the longest answer, through both functions. The buffer is exactly long enough, or
+ * longer, and the bytes past the answer keep their values; or it is too short, and the call is refused
+ * by 10 and writes nothing.
  */
 #include "sayfudhoum.h"
 #include "slices.h"

@@ -73,7 +73,7 @@ static const struct edge_case {
     {"a in x with the highest names", NAMES_8_16 "12 00 02 07 0F " END, 0, 0},
 };
 
-/* Both functions refuse it so, or neither does; of a refused question no buffer is too short, and none is written. */
+/* Both functions refuse it so, or neither does. A refused question is never refused by 10, and nothing is written. */
 static int as_expected(const struct edge_case *edge_case)
 {
     uint8_t bytes[SAYFUDHOUM_MAX_QUESTION_LENGTH + 6];

@@ -16,10 +16,10 @@ struct question {
     struct statement statements[64];
 };
 
-/* The body of a tag that a question file knows, a letter for each byte: e element name, s set name, c count. Else NULL. */
+/* The body of a tag, a letter for each byte: e element name, s set name, c count. NULL if the tag is unknown. */
 const char *body_of(uint8_t tag);
 
-/* Reads a question file. Gives 0, or the refusal as the library gives it: its number and 256 times its place. */
+/* Reads a question file. Gives 0, or the refusal as the library does: its number and 256 times its place. */
 uint64_t read_question(const uint8_t *bytes, size_t length, struct question *question);
 
 #endif

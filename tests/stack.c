@@ -43,7 +43,8 @@ static size_t touched(enum function function, const struct file *file)
     struct call call = {function, file, 0};
     pthread_attr_t attributes;
     pthread_t thread;
-    if (stack == NULL || pthread_attr_init(&attributes) != 0 || pthread_attr_setstack(&attributes, stack, STACK) != 0)
+    if (stack == NULL || pthread_attr_init(&attributes) != 0
+        || pthread_attr_setstack(&attributes, stack, STACK) != 0)
         exit(2);
     memset(stack, PAINT, STACK);
     if (pthread_create(&thread, &attributes, run, &call) != 0)
