@@ -1,0 +1,113 @@
+// One question put to both solvers, and what is counted.
+use crate::models::is_right;
+use crate::patterns::patterns;
+use crate::patterns::stated;
+use crate::printing;
+use crate::trials::exists;
+use answer::Answer;
+use answer::Verdict;
+use question::Question;
+use sayfudhoum::DecisionCheck;
+use sayfudhoum::decide;
+
+pub struct Tally {
+    pub questions: u64,
+    pub possible: u64,
+    pub impossible: u64,
+    // Questions with a pattern, put to both.
+    pub patterns: u64,
+    // Models of the library, judged.
+    pub models: u64,
+    pub differences: u64,
+}
+
+impl Tally {
+    pub fn new() -> Tally {
+        Tally {
+            questions: 0,
+            possible: 0,
+            impossible: 0,
+            patterns: 0,
+            models: 0,
+            differences: 0,
+        }
+    }
+}
+
+fn one_more(n: u64) -> u64 {
+    std::num::wrapping_add_u64(n, 1)
+}
+
+// A difference is counted, and the first one is printed.
+pub fn differ(t: Tally, q: Question) -> Tally {
+    let mut counted = t;
+    if t.differences == 0 {
+        printing::difference(q);
+    }
+    counted.differences = one_more(t.differences);
+    counted
+}
+
+fn is_possible(answer: Answer) -> bool {
+    let verdict = answer.verdict;
+    match verdict {
+        Verdict::Possible => true,
+        Verdict::Impossible => false,
+    }
+}
+
+// The library's decision, held to whether the question is possible; where it shows a model, that is tested.
+pub fn hold(t: Tally, q: Question, possible: bool) -> Tally {
+    let decision = decide(q);
+    let outcome = decision.outcome;
+    let answer = decision.answer;
+    match outcome {
+        DecisionCheck::Refused(_) => differ(t, q),
+        DecisionCheck::Decided => {
+            if is_possible(answer) {
+                let mut counted = t;
+                counted.models = one_more(t.models);
+                if possible & is_right(q, answer) {
+                    return counted;
+                }
+                return differ(counted, q);
+            }
+            if possible {
+                return differ(t, q);
+            }
+            t
+        }
+    }
+}
+
+// One more question, possible or not.
+pub fn counted(t: Tally, possible: bool) -> Tally {
+    let mut counted = t;
+    counted.questions = one_more(t.questions);
+    if possible {
+        counted.possible = one_more(t.possible);
+    } else {
+        counted.impossible = one_more(t.impossible);
+    }
+    counted
+}
+
+// Both solvers on the question with each pattern of its element names stated; if there are several, the question itself
+// is possible exactly if it is with one of them.
+pub fn compare(t: Tally, q: Question) -> Tally {
+    let all = patterns(q.elements);
+    let mut now = t;
+    let mut possible = false;
+    let mut p: usize = 0;
+    while p < all {
+        let found = exists(q, p);
+        now = hold(now, stated(q, p), found);
+        now.patterns = one_more(now.patterns);
+        possible = possible | found;
+        p += 1;
+    }
+    if all == 1 {
+        return counted(now, possible);
+    }
+    counted(hold(now, q, possible), possible)
+}
