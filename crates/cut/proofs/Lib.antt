@@ -2,5 +2,6 @@
 pub mod MembersLaws
 pub mod InForceLaws
 pub mod CutLaws
+pub mod FittingLaws
 pub mod WholeLaws
 pub mod BehindLaws

@@ -1,15 +1,15 @@
--- The set of a class's terms: which bits it has, how it is walked, and what one term more does to it.
+-- The set of a class's terms: which bits it has, and what one term more does to it.
 use Prim.Native.Nat.{ℕ, suc, _+_, _-_, _*_, _/_, _%_, _^_, _≤_, _<_}
-use mathlib.Core.Path.{_≡_, refl, ap, subst, _∙_}
+use mathlib.Core.Path.{_≡_, refl, ap, _∙_}
 use mathlib.Core.Bool.{Bool, true, false, cond}
+use mathlib.Core.Logic.{_≢_}
 use mathlib.Core.List.{List, [], _∷_, _++_}
 use native.Mathlib.Omega.{arith}
 use native.Mathlib.Nat.{pow-suc, div-eq-of-lt, add-mul-div-right, add-mul-mod-self-right}
 use lib.Dec.{eqb}
-use lib.ListN.{length, getD, take, drop, length-drop, drop-of-length-le}
+use lib.ListN.{length}
 use lib.Pow.{pow-add, pow-pos, pow-mono}
-use lib.Seq.{drop-cons, getD-take, length-take-le}
-use borrow.Author.Tests.{eq-eqb}
+use borrow.Author.Tests.{eq-eqb, ne-eqb}
 use Rattle.question.specs.Masks.{bit}
 use Rattle.theory.specs.Arrangements.{inClass}
 use Rattle.theory.proofs.DigitLaws.{number, number-below, number-digit}
@@ -58,25 +58,12 @@ module _ (k : ℕ) where
   pub bit-outside : (p : List ℕ) (c : ℕ) → length p ≤ c → bit (members p k) c ≡ false
   bit-outside p c h = bit-past (members p k) (length p) c (members-below p) h
 
-  -- a walk over the first n terms from the last one down: what it has gathered of those from i on
-  abbrev pub gathered : List ℕ → ℕ → ℕ → ℕ
-  gathered l n i = members (drop i (take n l)) k
-
-  module _ (l : List ℕ) (n : ℕ) (long : n ≤ length l) where
-    pub gathered-start : gathered l n n ≡ 0
-    gathered-start = ap (λ p. members p k) (drop-of-length-le (take n l) {i = n} (omega (arith, length-take-le n l long)))
-
-    pub gathered-turn : (i : ℕ) → 0 < i → i ≤ n → gathered l n (i - 1) ≡ gathered l n i * 2 + cond (eqb k (getD l (i - 1) 0)) 1 0
-    gathered-turn i low high =
-        let back : suc (i - 1) ≡ i = omega arith in
-        ap (λ p. members p k) (drop-cons (take n l) (i - 1) 0 (omega (arith, length-take-le n l long)))
-        ∙ ap (λ j. members (drop j (take n l)) k * 2 + cond (eqb k (getD (take n l) (i - 1) 0)) 1 0) back
-        ∙ ap (λ c. gathered l n i * 2 + cond (eqb k c) 1 0) (getD-take n l (i - 1) 0 (omega arith))
-
-    pub gathered-below : (i : ℕ) → i ≤ n → gathered l n i < 2 ^ (n - i)
-    gathered-below i h = subst (λ m. gathered l n i < 2 ^ m) (length-drop i (take n l) ∙ ap (λ m. m - i) (length-take-le n l long)) (members-below (drop i (take n l)))
-
   -- one term more, in the class
   pub members-last : (p : List ℕ) → members (p ++ (k ∷ [])) k ≡ members p k + 2 ^ length p
   members-last [] = rw (eq-eqb k k refl)
   members-last (c ∷ p) = rw (members-last p, pow-suc) (omega arith)
+
+  -- one term more, in another class
+  pub members-other : (p : List ℕ) (c : ℕ) → k ≢ c → members (p ++ (c ∷ [])) k ≡ members p k
+  members-other [] c ne = rw (ne-eqb k c ne)
+  members-other (d ∷ p) c ne = ap (λ n. n * 2 + cond (eqb k d) 1 0) (members-other p c ne)

@@ -41,6 +41,11 @@ module _ {arrangement : List ℕ} {placed used : ℕ} (here : Placing arrangemen
   unfolding before-last
   last-split = let e : placed ≡ suc (placed - 1) = omega arith in ap (λ n. take n arrangement) e ∙ take-suc arrangement (placed - 1) 0 (omega (arith, here .long, here .few-terms))
 
+  -- it is one of those that stand
+  pub last-class : k < used
+  last-class = let e : used ≡ classes p = here .counted in
+      subst (λ n. k < n) (sym e) (subst (λ j. j < classes p) (getD-take placed arrangement (placed - 1) 0 (omega arith)) (class-below 0 p (placed - 1) (omega (arith, placed-length here))))
+
   module _ (class : ℕ) (is : class ≡ members p k) where
     -- the last term is the highest of its class
     pub place-of-last : NotedAt class class placed
@@ -50,6 +55,5 @@ module _ {arrangement : List ℕ} {placed used : ℕ} (here : Placing arrangemen
         inl (refl, members-few here k class is, omega (arith, with-last, pow-suc 2 (placed - 1), ap (λ n. 2 ^ n) e), omega (arith, is, members-below k p, ap (λ n. 2 ^ n) (placed-length here)))
 
     pub last-cut : (entries : List ℕ) (sets : ℕ) (has : Bool) → has ≡ isThere (maskOfClass entries sets class placed) → not has ≡ true → (left : ℕ) → found entries sets arrangement placed left ≡ none
-    last-cut entries sets has told fails left = class-cut (2 ^ sets) (rowsOfEntries entries) p left k
-        (subst (λ j. j < classes p) (getD-take placed arrangement (placed - 1) 0 (omega arith)) (class-below 0 p (placed - 1) (omega (arith, placed-length here))))
+    last-cut entries sets has told fails left = class-cut (2 ^ sets) (rowsOfEntries entries) p left k (subst (λ n. k < n) (here .counted) last-class)
         (cc (not-there (maskOfClass entries sets class placed) (sym told ∙ not-true has fails), placed-length here))

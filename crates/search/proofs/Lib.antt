@@ -9,6 +9,8 @@ pub mod StepLaws
 pub mod LeafLaws
 pub mod LastClassLaws
 pub mod SettledLaws
+pub mod GroupLaws
+pub mod FitLaws
 pub mod OtherLaws
 pub mod SearchedLaws
 pub mod OneResultLaws

@@ -1,8 +1,8 @@
 // The search: rows that are handed in are checked, and then their first model is found, or that there is none.
 mod answers;
-mod classes;
 mod cuts;
 mod entries;
+mod groups;
 mod memos;
 mod models;
 mod others;

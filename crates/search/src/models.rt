@@ -2,7 +2,6 @@
 use crate::answers::SearchAnswer;
 use crate::answers::Verdict;
 use crate::answers::without_model;
-use crate::classes::class_members;
 use mask::Smallest;
 use mask::smallest_mask;
 ghost use mathlib.Core.Path.{_≡_};
@@ -15,12 +14,13 @@ ghost use Rattle.theory.specs.FirstModels.{modelOf};
 ghost use Rattle.theory.specs.Sets.{fits, rowDeclared};
 ghost use Rattle.mask.specs.Entries.{rowsOfEntries};
 ghost use Rattle.search.specs.Answers.{answerOf};
-ghost use Rattle.search.specs.Placings.{Placing};
+ghost use Rattle.search.specs.Placings.{Placing, GroupsOf};
 
 // The arrangement with those masks, or impossible where a class has none.
 pub(crate) fn model(
     entries: &[u64],
     arrangement: [u8; 12],
+    groups: [u32; 12],
     terms: usize,
     used: u8,
     sets: u8,
@@ -28,13 +28,14 @@ pub(crate) fn model(
     requires { ⌜ sets ≤ maxSets ⌝ }
     requires { ⌜ T (allRows (rowDeclared terms sets) (rowsOfEntries (now entries))) ⌝ }
     requires { ⌜ Placing arrangement terms used ⌝ }
+    requires { ⌜ GroupsOf arrangement terms groups ⌝ }
     ensures { λ r. ⌜ r ≡ answerOf (modelOf fits (2 ^ sets) (rowsOfEntries (now (entries .entry))) (take terms arrangement)) ⌝ }
 {
     let count = used as usize;
     let mut masks: [u32; 12] = [0; 12];
     let mut k: usize = 0;
     while k < count {
-        let class = class_members(arrangement, terms, k as u8);
+        let class = groups[k];
         let smallest = smallest_mask(entries, class, terms as u32, sets);
         let Smallest::At(m) = smallest else {
             return without_model(Verdict::Impossible);

@@ -4,6 +4,7 @@ use crate::answers::Verdict;
 use crate::answers::is_possible;
 use crate::answers::without_model;
 use crate::cuts::hopeless;
+use crate::groups::with_term;
 use crate::models::model;
 ghost use mathlib.Core.Path.{_≡_};
 ghost use Prim.Native.Nat.{_+_, _≤_, max};
@@ -26,39 +27,52 @@ fn classes_with(used: u8, c: u8) -> u8
     if used < c + 1 { c + 1 } else { used }
 }
 
-// `left` terms are still to be placed, the first `placed` stand in `used` classes, and `others` is enough for the other terms of all rows.
+// `left` terms are still to be placed, the first `placed` stand in `used` classes with these groups of terms, and `others` is enough for the other terms of all rows.
 pub(crate) fn place(
     entries: &[u64],
     memo: &mut [u8],
     arrangement: [u8; 12],
+    groups: [u32; 12],
     placed: usize,
     left: usize,
     used: u8,
     others: usize,
     sets: u8,
 ) -> SearchAnswer
-    requires { ⌜ Standing (now entries) sets (now memo) arrangement placed used ⌝ }
+    requires { ⌜ Standing (now entries) sets (now memo) arrangement groups placed used ⌝ }
     requires { ⌜ placed + left ≤ maxTerms ⌝ }
     requires { ⌜ T (allRows (rowDeclared (placed + left) sets) (rowsOfEntries (now entries))) ⌝ }
     requires { ⌜ T (othersPlaced others (rowsOfEntries (now entries))) ⌝ }
     ensures { λ r. ⌜ r ≡ answerOf (found (now (entries .entry)) sets arrangement placed left) ⌝ }
     ensures { λ r. ⌜ Memo (now (entries .entry)) sets (now (memo .exit)) ⌝ }
 {
-    if hopeless(entries, memo, arrangement, placed, left, used, others, sets) {
+    if hopeless(
+        entries,
+        memo,
+        arrangement,
+        groups,
+        placed,
+        left,
+        used,
+        others,
+        sets,
+    ) {
         return without_model(Verdict::Impossible);
     }
     if left == 0 {
-        return model(entries, arrangement, placed, used, sets);
+        return model(entries, arrangement, groups, placed, used, sets);
     }
     let mut c: u8 = 0;
     while c <= used {
         let mut next = arrangement;
         next[placed] = c;
         let more = classes_with(used, c);
+        let grown = with_term(groups, c, placed);
         let r = place(
             entries,
             memo,
             next,
+            grown,
             placed + 1,
             left - 1,
             more,

@@ -28,9 +28,20 @@ fn search_entries(entries: &[u64], terms: usize, sets: u8) -> SearchAnswer
     ensures { λ r. ⌜ r ≡ answerOf (firstModel fits terms (2 ^ sets) (rowsOfEntries (now (entries .entry)))) ⌝ }
 {
     let arrangement: [u8; 12] = [0; 12];
+    let groups: [u32; 12] = [0; 12];
     let mut memo: [u8; 8192] = [0; 8192];
     let others = others_within(entries);
-    place(entries, &mut memo, arrangement, 0, terms, 0, others, sets)
+    place(
+        entries,
+        &mut memo,
+        arrangement,
+        groups,
+        0,
+        terms,
+        0,
+        others,
+        sets,
+    )
 }
 
 // Rows that the check accepts: the first model depends only on which rows there are, so they are searched as entries in another order.

@@ -2,10 +2,13 @@
 use mathlib.Core.Bool.{false≢true}
 use native.Mathlib.Omega.{arith}
 use borrow.Author.Needs.{needs}
+use borrow.Author.Tests.{not-true}
 use lib.Dec.{T}
 use Rattle.mask.specs.Entries.{rowsOfEntries}
 use Rattle.cut.specs.Others.{othersPlaced}
 use Rattle.cut.proofs.InForceLaws.{others-more}
+use Rattle.search.proofs.GroupLaws.{group-below}
+use Rattle.search.proofs.FitLaws.{unfit-cut}
 use Rattle.search.proofs.cuts.hopeless.Statement.{statement}
 use Rattle.search.proofs.cuts.hopeless.Tie as tie
 
@@ -25,11 +28,21 @@ some-class-fails-requires c κs = let s = c .before .before .before .before in (
 returns-3 : tie.Need-returns-3
 returns-3 c = let told = c .before .before .before .some-class-fails .ensures in ((λ e. told .0 (c .if3 .taken) (c .before .before .before .before .before .before .before .before .args .left)), told .1)
 
-some-term-fits-nowhere-requires : tie.Need-some-term-fits-nowhere-requires
-some-term-fits-nowhere-requires c κs =
+fit-together-requires : tie.Need-fit-together-requires
+fit-together-requires c κs =
     let asked = c .before .before .before .before in
     let s = asked .before .before .before .before .before in
-    (record { few-sets = s .pre .0 .few-sets; remembered = asked .some-class-fails .ensures .1; placing = s .pre .0 .placing }, (settled (asked .before), s .pre .1 .1))
+    let here = s .pre .0 .placing in (
+      (s .pre .0 .few-sets, omega (arith, here .few-classes, here .few-terms), s .pre .1 .1),
+      (asked .some-class-fails .ensures .1, λ k lt. group-below here (s .pre .0 .grouped) k (omega (arith, here .few-classes, here .few-terms))),
+    )
+
+returns-4 : tie.Need-returns-4
+returns-4 c =
+    let told = c .before .before .fit-together in
+    let asked = c .before .before .before .before .before .before .before in
+    let s = asked .before .before .before .before .before in
+    ((λ e. unfit-cut (s .pre .0 .placing) (s .pre .0 .grouped) (s .args .entries .now) (s .args .sets) (s .args .left) (settled (asked .before)) (told .ensures .0 (not-true (told .result) e))), told .ensures .1)
 
 pub hopeless-spec : {M : Type 1} → statement M
 hopeless-spec =
@@ -42,6 +55,6 @@ hopeless-spec =
     some-class-fails-requires
     (λ c. search needs)
     returns-3
-    some-term-fits-nowhere-requires
+    fit-together-requires
     (λ c. search needs)
-    (λ c. c .before .before .some-term-fits-nowhere .ensures))
+    returns-4)

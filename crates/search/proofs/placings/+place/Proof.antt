@@ -14,10 +14,12 @@ use Rattle.mask.specs.Entries.{rowsOfEntries}
 use Rattle.search.specs.Answers.{answerOf}
 use Rattle.search.specs.Memos.{Memo}
 use Rattle.search.proofs.PlacingLaws.{placing-next}
+use Rattle.search.proofs.GroupLaws.{group-below, groups-next}
 use Rattle.search.proofs.StepLaws.{some-left, room, as-many, fewer, none-left, foundIn, Before, answer-none, answer-whole, before-first, answer-next, class-hit, class-miss, class-end}
 use Rattle.search.proofs.answers.is_possible.Reads as is-possible
 use Rattle.search.proofs.answers.without_model.Reads as without-model
 use Rattle.search.proofs.cuts.hopeless.Reads as hopeless
+use Rattle.search.proofs.groups.with_term.Reads as with-term
 use Rattle.search.proofs.models.model.Reads as model
 use Rattle.search.proofs.placings.classes_with.Reads as classes-with
 use Rattle.search.proofs.placings.place.Reads as place
@@ -28,13 +30,13 @@ use Rattle.search.proofs.placings.+place.Tie.{close}
 
 -- how many terms are left
 abbrev μ-place : Measures 2 kinds.ps ℕ
-μ-place κs a = a .1 .1 .1 .1 .0
+μ-place κs a = a .1 .1 .1 .1 .1 .0
 
 abbrev Inv-loop : lts.InvT-loop
-Inv-loop entries memo₀ arrangement placed left used others sets c₀ memo c = (c ≤ suc used) × Before entries sets arrangement placed left used c × Memo entries sets memo
+Inv-loop entries memo₀ arrangement groups placed left used others sets c₀ memo c = (c ≤ suc used) × Before entries sets arrangement placed left used c × Memo entries sets memo
 
 abbrev μ-loop : lts.MeasureT-loop
-μ-loop entries memo₀ arrangement placed left used others sets c₀ memo c = suc used - c
+μ-loop entries memo₀ arrangement groups placed left used others sets c₀ memo c = suc used - c
 
 -- a call with t terms left, and what the calls inside it ask and tell
 module _ (t : ℕ) where
@@ -51,6 +53,8 @@ module _ (t : ℕ) where
     model.Learnt,
     classes-with.Asked,
     classes-with.Learnt,
+    with-term.Asked,
+    with-term.Learnt,
     and 2 kinds.ps (falls 2 kinds.ps _<_ μ-place t) place.Pre,
     place.Post,
     is-possible.Asked,
@@ -67,7 +71,7 @@ module _ (t : ℕ) where
   model-requires c κs =
       let s = c .before .before .before .before .before .before .before .before in
       let a = s .args in
-      (s .pre .1 .0 .few-sets, (subst (λ n. T (allRows (rowDeclared n (a .sets)) (rowsOfEntries (a .entries .now)))) (none-left (a .placed) (a .left) (c .if2 .taken)) (s .pre .1 .1 .1 .0), s .pre .1 .0 .placing))
+      (s .pre .1 .0 .few-sets, (subst (λ n. T (allRows (rowDeclared n (a .sets)) (rowsOfEntries (a .entries .now)))) (none-left (a .placed) (a .left) (c .if2 .taken)) (s .pre .1 .1 .1 .0), (s .pre .1 .0 .placing, s .pre .1 .0 .grouped)))
 
   returns-2 : lts.Need-returns-2 claims here place.Post Inv-loop μ-loop
   returns-2 c =
@@ -91,9 +95,18 @@ module _ (t : ℕ) where
   allowed : (c : lts.In-loop claims here place.Post Inv-loop μ-loop) → c .before .loop .c ≤ start (c .before) .args .used
   allowed c = omega (arith, c .loop-test .taken)
 
+  inside : (c : lts.In-loop claims here place.Post Inv-loop μ-loop) → c .before .loop .c < maxTerms
+  inside c = omega (arith, allowed c, start (c .before) .pre .1 .0 .placing .few-classes, room-here (c .before))
+
+  with-term-requires : lts.Need-with-term-requires claims here place.Post Inv-loop μ-loop
+  with-term-requires c κs =
+      let l = c .before .before in
+      let s = start l in
+      (inside (c .before), room-here l, group-below (s .pre .1 .0 .placing) (s .pre .1 .0 .grouped) (l .loop .c) (inside (c .before)))
+
   place-requires : lts.Need-place-requires claims here place.Post Inv-loop μ-loop
   place-requires c κs =
-      let l = c .before .before .before in
+      let l = c .before .before .before .before in
       let s = start l in
       let a = s .args in
       let all = as-many (a .placed) (a .left) (l .before .if2 .left) in (
@@ -102,17 +115,18 @@ module _ (t : ℕ) where
           record {
             few-sets = s .pre .1 .0 .few-sets;
             remembered = l .loop .inv .2;
-            placing = placing-next (s .pre .1 .0 .placing) (l .loop .c) (room-here l) (c .before .classes-with .result) (allowed (c .before .before)) (c .before .classes-with .ensures);
+            placing = placing-next (s .pre .1 .0 .placing) (l .loop .c) (room-here l) (c .before .before .classes-with .result) (allowed (c .before .before .before)) (c .before .before .classes-with .ensures);
+            grouped = groups-next (s .pre .1 .0 .placing) (s .pre .1 .0 .grouped) (l .loop .c) (room-here l) (inside (c .before .before .before)) (c .before .with-term .result) (c .before .with-term .ensures);
           },
           (subst (λ n. n ≤ maxTerms) all (s .pre .1 .1 .0), (subst (λ n. T (allRows (rowDeclared n (a .sets)) (rowsOfEntries (a .entries .now)))) all (s .pre .1 .1 .1 .0), s .pre .1 .1 .1 .1)),
         ),
       )
 
   -- what the call with the next term in the class c found
-  called : (c : lts.After-place claims here place.Post Inv-loop μ-loop) → let l = c .before .before .before .before in let a = start l .args in
+  called : (c : lts.After-place claims here place.Post Inv-loop μ-loop) → let l = c .before .before .before .before .before in let a = start l .args in
       c .place .result ≡ answerOf (foundIn (a .entries .now) (a .sets) (a .arrangement) (a .placed) (a .left) (a .used) (l .loop .c))
   called c =
-      let l = c .before .before .before .before in
+      let l = c .before .before .before .before .before in
       let s = start l in
       let a = s .args in
       answer-next (a .entries .now) (a .sets) (a .arrangement) (a .placed) (a .left) (a .used) (s .pre .1 .0 .placing) (l .loop .c) (c .place .result) (room-here l) (c .place .ensures .0)
@@ -120,9 +134,9 @@ module _ (t : ℕ) where
   returns-3 : lts.Need-returns-3 claims here place.Post Inv-loop μ-loop
   returns-3 c =
       let call = c .before .before .before .before in
-      let l = call .before .before .before .before in
+      let l = call .before .before .before .before .before in
       let a = start l .args in (
-        class-hit (a .entries .now) (a .sets) (a .arrangement) (a .placed) (a .left) (a .used) (l .loop .c) (call .place .result) (allowed (call .before .before .before)) (called call) (l .loop .inv .1)
+        class-hit (a .entries .now) (a .sets) (a .arrangement) (a .placed) (a .left) (a .used) (l .loop .c) (call .place .result) (allowed (call .before .before .before .before)) (called call) (l .loop .inv .1)
             (c .before .is-possible .result) (c .before .is-possible .ensures) (c .if3 .taken),
         call .place .ensures .1,
       )
@@ -130,10 +144,10 @@ module _ (t : ℕ) where
   loop-again : lts.Need-loop-again claims here place.Post Inv-loop μ-loop
   loop-again c =
       let call = c .before .before .before .before in
-      let l = call .before .before .before .before in
+      let l = call .before .before .before .before .before in
       let a = start l .args in (
         omega arith,
-        class-miss (a .entries .now) (a .sets) (a .arrangement) (a .placed) (a .left) (a .used) (l .loop .c) (call .place .result) (allowed (call .before .before .before)) (called call) (l .loop .inv .1)
+        class-miss (a .entries .now) (a .sets) (a .arrangement) (a .placed) (a .left) (a .used) (l .loop .c) (call .place .result) (allowed (call .before .before .before .before)) (called call) (l .loop .inv .1)
             (c .before .is-possible .result) (c .before .is-possible .ensures) (c .if3 .left),
         call .place .ensures .1,
       )
@@ -157,13 +171,14 @@ pub +place-spec : {M : Type 1} → statement M
     (loop-holds t)
     (λ c. room-here t (c .before))
     (λ c κs. omega (arith, start t (c .before) .pre .1 .0 .placing))
-    (λ c. omega (arith, room-here t (c .before .before .before)))
-    (λ c. let l = c .before .before .before in some-left (start t l .args .placed) (start t l .args .left) (l .before .if2 .left))
+    (with-term-requires t)
+    (λ c. omega (arith, room-here t (c .before .before .before .before)))
+    (λ c. let l = c .before .before .before .before in some-left (start t l .args .placed) (start t l .args .left) (l .before .if2 .left))
     (place-requires t)
     (λ c κs. search needs)
-    (λ c. c .before .before .before .before .place .ensures .1 .long ∙ sym (start t (c .before .before .before .before .before .before .before .before) .pre .1 .0 .remembered .long))
+    (λ c. c .before .before .before .before .place .ensures .1 .long ∙ sym (start t (c .before .before .before .before .before .before .before .before .before) .pre .1 .0 .remembered .long))
     (returns-3 t)
-    (λ c. omega (arith, start t (c .before .before .before .before .before .before .before .before) .pre .1 .0 .placing))
+    (λ c. omega (arith, start t (c .before .before .before .before .before .before .before .before .before) .pre .1 .0 .placing))
     (λ c. search needs)
     (loop-again t)
     (λ c κs. search needs)

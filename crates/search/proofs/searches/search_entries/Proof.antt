@@ -8,6 +8,7 @@ use Rattle.theory.specs.Solutions.{allRows}
 use Rattle.theory.specs.Sets.{rowDeclared}
 use Rattle.mask.specs.Entries.{rowsOfEntries}
 use Rattle.search.proofs.PlacingLaws.{placing-start}
+use Rattle.search.proofs.GroupLaws.{groups-start}
 use Rattle.search.proofs.MemoLaws.{memo-start}
 use Rattle.search.proofs.SearchedLaws.{answer-first}
 use Rattle.search.proofs.searches.search_entries.Statement.{statement}
@@ -18,7 +19,7 @@ place-requires c κs =
     let s = c .before .before .before in
     let a = s .args in
     let all : a .terms ≡ 0 + a .terms = omega arith in (
-      record { few-sets = s .pre .0 .1; remembered = memo-start (a .entries .now) (a .sets); placing = placing-start },
+      record { few-sets = s .pre .0 .1; remembered = memo-start (a .entries .now) (a .sets); placing = placing-start; grouped = groups-start },
       (omega (arith, s .pre .0 .0), (subst (λ n. T (allRows (rowDeclared n (a .sets)) (rowsOfEntries (a .entries .now)))) all (s .pre .1), c .before .others-within .ensures)),
     )
 
