@@ -40,6 +40,10 @@ asAnswer (some sol) = record { verdict = Possible; arrangement = padded (sol .ar
 abbrev pub impossibleAnswer : Answer
 impossibleAnswer = asAnswer none
 
+-- what stands beside a refusal. It says possible: who forgets to look at the refusal is not told "impossible"
+abbrev pub filler : Answer
+filler = record { verdict = Possible; arrangement = padded []; masks = padded [] }
+
 -- an answer with its ignored entries set to 0
 abbrev pub cleaned : ℕ → Answer → Answer
 cleaned T a = asAnswer (said T a)

@@ -19,14 +19,14 @@ use Rattle.answer.specs.declared.frames.Frame.{Frame}
 use Rattle.answer.specs.declared.frames.Frame.the-variants.{Sound, Refused as BadFrame}
 use Rattle.answer.specs.declared.reads.AnswerFileCheck.the-variants.{Accepted, Refused}
 use Rattle.answer.specs.declared.reads.ReadAnswer.{ReadAnswer}
-use Rattle.answer.specs.Answers.{padded, impossibleAnswer}
+use Rattle.answer.specs.Answers.{padded, impossibleAnswer, filler}
 use Rattle.answer.specs.Bodies.{masksIn}
 use Rattle.answer.specs.Checks.{isArrangement, allBelow}
 use Rattle.answer.specs.Frames.{frameOf}
 
--- a refusal, with the impossible answer beside it
+-- a refusal, with the filler beside it
 abbrev pub refusedFile : Refusal → ReadAnswer
-refusedFile r = record { outcome = Refused r; answer = impossibleAnswer }
+refusedFile r = record { outcome = Refused r; answer = filler }
 
 abbrev pub refusedAt : ℕ → ℕ → ReadAnswer
 refusedAt number place = refusedFile (refusal number place)

@@ -25,7 +25,7 @@ pub enum AnswerFileCheck {
     Refused(Refusal),
 }
 
-// Whether the file is accepted, and its answer; where it is refused the answer is the impossible one.
+// Whether the file is accepted, and its answer. Where it is refused the answer is a filler, which never says "impossible".
 pub struct ReadAnswer {
     pub outcome: AnswerFileCheck,
     pub answer: Answer,
@@ -34,10 +34,14 @@ pub struct ReadAnswer {
 fn refuse_file(refusal: Refusal) -> ReadAnswer
     ensures { λ r. ⌜ r ≡ refusedFile refusal ⌝ }
 {
-    let answer = Answer::impossible();
+    let filler = Answer {
+        verdict: Verdict::Possible,
+        arrangement: [0; 12],
+        masks: [0; 12],
+    };
     ReadAnswer {
         outcome: AnswerFileCheck::Refused(refusal),
-        answer: answer,
+        answer: filler,
     }
 }
 

@@ -1,5 +1,4 @@
 -- The decision of a question: its answer, or why the table is refused.
-use mathlib.Core.List.{[]}
 use Rattle.question.specs.declared.refusals.Refusal.{Refusal}
 use Rattle.question.specs.declared.questions.Question.{Question}
 use Rattle.question.specs.declared.checks.TableCheck.{TableCheck}
@@ -11,14 +10,11 @@ use Rattle.search.specs.declared.answers.Verdict.the-variants.{Possible as Foun
 use Rattle.search.specs.declared.answers.SearchAnswer.{SearchAnswer}
 use Rattle.answer.specs.declared.answers.Verdict.the-variants.{Possible}
 use Rattle.answer.specs.declared.answers.Answer.{Answer}
-use Rattle.answer.specs.Answers.{padded, asAnswer, impossibleAnswer}
+use Rattle.answer.specs.Answers.{asAnswer, impossibleAnswer, filler}
 use Rattle.sayfudhoum.specs.declared.decisions.DecisionCheck.the-variants.{Decided, Refused}
 use Rattle.sayfudhoum.specs.declared.decisions.Decision.{Decision}
 
--- beside a refusal stands a filler. It says possible: who forgets to look at the refusal is not told "impossible"
-abbrev pub filler : Answer
-filler = record { verdict = Possible; arrangement = padded []; masks = padded [] }
-
+-- a refusal, with the filler beside it
 abbrev pub undecided : Refusal → Decision
 undecided r = record { outcome = Refused r; answer = filler }
 

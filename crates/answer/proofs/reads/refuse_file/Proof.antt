@@ -1,12 +1,12 @@
--- `refuse_file` puts the impossible answer beside the refusal.
-use mathlib.Core.Path.{ap}
-use borrow.Author.Needs.{needs}
-use Rattle.answer.specs.declared.reads.AnswerFileCheck.the-variants.{Refused}
+-- `refuse_file` puts the filler beside the refusal.
+use mathlib.Core.Path.{refl}
+use Rattle.answer.specs.Answers.{padded}
 use Rattle.answer.proofs.reads.refuse_file.Statement.{statement}
 use Rattle.answer.proofs.reads.refuse_file.Tie as tie
 
 returns : tie.Need-returns
-returns c = ap (λ x. record { outcome = Refused (c .before .args .refusal); answer = x }) (c .impossible .ensures)
+unfolding padded
+returns c = refl
 
 pub refuse-file-spec : {M : Type 1} → statement M
-refuse-file-spec = tie.close (tie.spec (λ c κs. search needs) returns)
+refuse-file-spec = tie.close (tie.spec returns)
