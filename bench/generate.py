@@ -47,11 +47,11 @@ def small(rng):
 
 
 def drawn_at_random(rng):
-    """Names and statements drawn at random, of any legal size: all kinds alike, or few that set values."""
+    """Names and statements drawn at random, of any legal size: all kinds alike, or mostly operations."""
     for number in range(100):
         elements, sets = (ELEMENTS, SETS) if number % 2 else (rng.randint(1, ELEMENTS), rng.randint(2, SETS))
         statements = drawn(rng, elements, sets, rng.randint(4, 20 if number % 4 < 2 else STATEMENTS))
-        if number % 4 > 1:  # mostly operations, so that many statements don't always contradict each other
+        if number % 4 > 1:
             statements = [s if s[0] == 'differ' or rng.random() < 0.2 else draw(rng, rng.choice(OPERATIONS), elements, sets)
                           for s in statements]
         yield elements, sets, statements
@@ -85,7 +85,7 @@ def steps(rng):
 
 
 def full(rng):
-    """64 statements and T = 12: 60 statements that hold in a hidden model, four of them 'differ'; in half the questions one slip."""
+    """64 statements and T = 12, so four of them 'differ': all hold in a hidden model, but for one in every second question."""
     for number in range(60):
         size = rng.randint(3, TERMS)
         place = [rng.randrange(size) for _ in range(ELEMENTS)]

@@ -68,6 +68,7 @@ def push_pop(questions):
             cvc5.stdin.write(text)
             cvc5.stdin.flush()
             says = cvc5.stdout.readline().strip()
+            time.sleep(0.001)  # the clock is exact once cvc5 waits again
             return {'sat': 1, 'unsat': 0}.get(says), time.clock_gettime(clock) - start
 
         names = smt_names(max(q[0] for q in asked.values()), max(q[1] for q in asked.values()))
@@ -89,13 +90,14 @@ SOLVERS = {
 
 
 def readable(seconds):
-    return f'{seconds * 1e6:.3g} µs' if seconds < 1e-3 else f'{seconds * 1e3:.3g} ms'
+    factor, unit = (1e6, 'µs') if seconds < 1e-3 else (1e3, 'ms') if seconds < 1 else (1, 's')
+    return f'{seconds * factor:.3g} {unit}'
 
 
 def ratios(own, other):
     """Median and worst over the questions, and that of the totals: how many times longer the other took."""
     each = sorted(other[name][1] / own[name][1] for name in own)
-    return ' / '.join(f'{r:.0f}' if r >= 9.5 else f'{r:.1f}' for r in (
+    return ' / '.join(f'{r:.0f}' if r >= 9.5 else f'{r:.2g}' for r in (
         median(each), each[0], sum(t for _, t in other.values()) / sum(t for _, t in own.values())))
 
 
@@ -125,8 +127,7 @@ def main(driver):
             differences += [f'{name}: {verdict}, but {title} says {other[name][0]}'
                             for title, other in others.items() if other[name][0] != verdict]
     Path('target/bench.tsv').write_text('\n'.join(['\t'.join(['question', 'verdict', 'this library', *solvers]), *details, '']))
-    print(f'\nEach time in microseconds: target/bench.tsv\n{len(differences)} verdicts differ')
-    print('\n'.join(differences))
+    print('\n'.join(['', 'Each time in microseconds: target/bench.tsv', f'{len(differences)} verdicts differ', *differences]))
     return 1 if differences else 0
 
 
