@@ -2,6 +2,7 @@
 # make example    decides case I and two versions of a trimming step, and prints the answers in words
 # make test       the gate: all crates from nothing, every must-fail edit, and the tests through C
 # make memcheck   a part of the damaged files under valgrind, on x86-64 only
+# make bench      times the library beside cvc5, minisat and cadical, and compares their verdicts
 # make install    header, archive, program and pkg-config file, below PREFIX (and that below DESTDIR)
 # make clean      removes what was built
 ifeq ($(shell command -v rt 2>/dev/null),)
@@ -16,7 +17,7 @@ archive = target/staticlib/libsayfudhoum.a
 program = target/bin/decide
 place = $(DESTDIR)$(abspath $(PREFIX))
 
-.PHONY: all library program example test memcheck install clean
+.PHONY: all library program example test memcheck bench install clean
 .NOTPARALLEL:
 
 all: program library
@@ -47,6 +48,11 @@ else
 memcheck:
 	$(error make memcheck needs an x86-64 machine, since valgrind emulates no other processor)
 endif
+
+bench: library
+	@mkdir -p target/c
+	tests/x86-64 cc $(CFLAGS) -Iinclude -o target/c/bench bench/driver.c $(archive)
+	python3 bench/run.py tests/x86-64 run target/c/bench
 
 define pkgconfig
 prefix=$(abspath $(PREFIX))
