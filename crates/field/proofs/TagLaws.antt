@@ -19,13 +19,13 @@ use Rattle.field.proofs.Never.{never}
 
 -- one turn of the walk, over any table
 module _ (file : File) (tag : ℕ) (t : List Entry) where
-  pub hit : (i : ℕ) → i < length t → stands file tag (getD t i noEntry) ≡ true → lengthIn file (drop i t) tag ≡ getD t i noEntry .1
+  pub hit : (i : ℕ) (d : Entry) → i < length t → stands file tag (getD t i d) ≡ true → lengthIn file (drop i t) tag ≡ getD t i d .1
   unfolding lengthIn
-  hit i h e = rw (drop-cons t i noEntry h, e)
+  hit i d h e = rw (drop-cons t i d h, e)
 
-  pub miss : (i : ℕ) → i < length t → stands file tag (getD t i noEntry) ≡ false → lengthIn file (drop i t) tag ≡ lengthIn file (drop (i + 1) t) tag
+  pub miss : (i : ℕ) (d : Entry) → i < length t → stands file tag (getD t i d) ≡ false → lengthIn file (drop i t) tag ≡ lengthIn file (drop (i + 1) t) tag
   unfolding lengthIn
-  miss i h e = rw (drop-cons t i noEntry h, e, add-one i)
+  miss i d h e = rw (drop-cons t i d h, e, add-one i)
 
   pub none : (i : ℕ) → length t ≤ i → lengthIn file (drop i t) tag ≡ Unknown
   unfolding lengthIn

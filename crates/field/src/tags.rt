@@ -1,8 +1,8 @@
 // The one table of tags: each with its body length and the files in which it stands.
 ghost use mathlib.Core.Path.{_≡_};
 ghost use Prim.Native.Nat.{_<_};
-ghost use lib.ListN.{length, getD};
-ghost use Rattle.field.specs.Tags.{fieldTable, noEntry, knows, stands, lengthOf, isKnown, isAllowed};
+ghost use lib.ListN.{length};
+ghost use Rattle.field.specs.Tags.{knows, stands, lengthOf, isKnown, isAllowed};
 
 // The kinds of files that are read.
 pub enum File {
@@ -50,14 +50,6 @@ const FIELDS: [Entry; 17] = [
     Entry(0x7f, BodyLength::Fixed(0), Home::Every),
 ];
 
-// The entry at an index of the table.
-fn listed(i: usize) -> Entry
-    requires { ⌜ i < length fieldTable ⌝ }
-    ensures { λ r. ⌜ r ≡ getD fieldTable i noEntry ⌝ }
-{
-    FIELDS[i]
-}
-
 // Does a kind of file know the tags that stand there.
 fn known_at(file: File, home: Home) -> bool
     ensures { λ r. ⌜ r ≡ knows file home ⌝ }
@@ -93,9 +85,10 @@ fn is_entry(file: File, tag: u8, e: Entry) -> bool
 pub fn length_of(file: File, tag: u8) -> BodyLength
     ensures { λ r. ⌜ r ≡ lengthOf file tag ⌝ }
 {
+    let table = FIELDS;
     let mut i: usize = 0;
     while i < FIELDS.len() {
-        let e = listed(i);
+        let e = table[i];
         if is_entry(file, tag, e) {
             let length = e.1;
             return length;

@@ -1,6 +1,6 @@
--- `length_of` walks the table: what a file knows of the tag is what it knows by the entries from here on.
+-- `length_of` walks the table, which is the table of the definition: what a file knows of the tag is what it knows by the entries from here on.
 use Prim.Native.Nat.{_-_, _≤_}
-use mathlib.Core.Path.{_≡_, refl, sym, ap, _∙_}
+use mathlib.Core.Path.{_≡_, refl, sym, _∙_}
 use native.Mathlib.Omega.{arith}
 use borrow.Author.Needs.{needs}
 use lib.ListN.{drop, length}
@@ -10,24 +10,22 @@ use Rattle.field.proofs.tags.length_of.Statement.{statement}
 use Rattle.field.proofs.tags.length_of.Tie as tie
 
 abbrev Inv-loop : tie.InvT-loop
-Inv-loop file tag i₀ i = (i ≤ length fieldTable) × (lengthOf file tag ≡ lengthIn file (drop i fieldTable) tag)
+Inv-loop file tag table i₀ i = (i ≤ length fieldTable) × (lengthOf file tag ≡ lengthIn file (drop i fieldTable) tag)
 
 abbrev μ-loop : tie.MeasureT-loop
-μ-loop file tag i₀ i = length fieldTable - i
+μ-loop file tag table i₀ i = length fieldTable - i
 
 returns : tie.Need-returns Inv-loop μ-loop
 returns c =
     let l = c .before .before .before .before in
     let a = l .before .args in
-    let e = c .before .before .listed .ensures in
-    ap (λ x. x .1) e ∙ sym (l .loop .inv .1 ∙ hit (a .file) (a .tag) fieldTable (l .loop .i) (search needs) (rw (← e, ← c .before .is-entry .ensures) (c .if1 .taken)))
+    sym (l .loop .inv .1 ∙ hit (a .file) (a .tag) fieldTable (l .loop .i) _ (c .before .before .before .loop-test .taken) (sym (c .before .is-entry .ensures) ∙ c .if1 .taken))
 
 loop-again : tie.Need-loop-again Inv-loop μ-loop
 loop-again c =
     let l = c .before .before .before .before in
     let a = l .before .args in
-    let e = c .before .before .listed .ensures in
-    (omega arith, l .loop .inv .1 ∙ miss (a .file) (a .tag) fieldTable (l .loop .i) (search needs) (rw (← e, ← c .before .is-entry .ensures) (c .if1 .left)))
+    (omega arith, l .loop .inv .1 ∙ miss (a .file) (a .tag) fieldTable (l .loop .i) _ (c .before .before .before .loop-test .taken) (sym (c .before .is-entry .ensures) ∙ c .if1 .left))
 
 returns-2 : tie.Need-returns-2 Inv-loop μ-loop
 returns-2 c =
@@ -41,7 +39,8 @@ length-of-spec =
     Inv-loop
     μ-loop
     (λ c. (omega arith, refl))
-    (λ c κs. search needs)
+    (λ c. search needs)
+    (λ c. c .loop-test .taken)
     (λ c κs. search needs)
     returns
     (λ c. search needs)
