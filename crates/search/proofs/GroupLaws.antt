@@ -1,11 +1,12 @@
 -- The terms of each class: at the start, with one term more placed, and how large the sets are.
-use Prim.Native.Nat.{ℕ, _+_, _^_, _<_}
+use Prim.Native.Nat.{ℕ, _+_, _^_, _≤_, _<_}
 use mathlib.Core.Path.{_≡_, refl, sym, ap, _∙_}
 use mathlib.Core.List.{List, [], _∷_, _++_}
 use native.Mathlib.Omega.{arith}
 use native.Mathlib.Decide.{ℕ-discrete}
+use native.Mathlib.Numerals.{add-one}
 use lib.ListN.{length, getD, take, set, length-set, getD-replicate}
-use lib.Seq.{getD-set-same, getD-set-other}
+use lib.Seq.{getD-set-same, getD-set-other, length-take-le, take-suc}
 use Rattle.question.specs.Limits.{maxTerms}
 use Rattle.cut.specs.Members.{members}
 use Rattle.cut.proofs.MembersLaws.{members-below, members-last, members-other}
@@ -16,25 +17,46 @@ use Rattle.search.proofs.PlacingLaws.{placed-length, next-taken}
 zero-entry : (k : ℕ) → k < 12 → getD (padded []) k 0 ≡ 0
 zero-entry k lt = getD-replicate 12 k 0 0 lt
 
-pub groups-start : GroupsOf (padded []) 0 (padded [])
-groups-start = record { long = refl; are = λ k lt. zero-entry k lt }
+-- one term more in the class c, behind the class numbers p
+grown : (groups p : List ℕ) (c : ℕ) → length groups ≡ maxTerms → c < maxTerms → ((k : ℕ) → k < maxTerms → getD groups k 0 ≡ members p k) →
+    (k : ℕ) → k < maxTerms → getD (set groups c (getD groups c 0 + 2 ^ length p)) k 0 ≡ members (p ++ (c ∷ [])) k
+grown groups p c long lt are k h = go (ℕ-discrete k c)
+  where
+    more : ℕ
+    more = getD groups c 0 + 2 ^ length p
+
+    go : Dec (k ≡ c) → getD (set groups c more) k 0 ≡ members (p ++ (c ∷ [])) k
+    go (yes e) = ap (λ i. getD (set groups c more) i 0) e ∙ getD-set-same groups c more 0 (omega arith) ∙ ap (λ g. g + 2 ^ length p) (are c lt) ∙ sym (members-last c p) ∙ ap (members (p ++ (c ∷ []))) (sym e)
+    go (no ne) = getD-set-other groups c k more 0 ne ∙ are k h ∙ sym (members-other k p c ne)
+
+-- the next term of an arrangement
+pub groups-more : (arrangement groups : List ℕ) (t : ℕ) → t < length arrangement → getD arrangement t 0 < maxTerms → GroupsOf arrangement t groups → (next : List ℕ) →
+    next ≡ set groups (getD arrangement t 0) (getD groups (getD arrangement t 0) 0 + 2 ^ t) → GroupsOf arrangement (t + 1) next
+groups-more arrangement groups t inside lt of next is = record {
+  long = ap length is ∙ length-set groups (getD arrangement t 0) _ ∙ of .long;
+  are = λ k h. ap (λ l. getD l k 0) (is ∙ ap (λ n. set groups c (getD groups c 0 + 2 ^ n)) (sym (length-take-le t arrangement (omega arith))))
+      ∙ grown groups (take t arrangement) c (of .long) lt (of .are) k h ∙ ap (λ p. members p k) (sym (ap (λ n. take n arrangement) (add-one t) ∙ take-suc arrangement t 0 inside));
+}
+  where
+    c : ℕ
+    c = getD arrangement t 0
+
+-- a set has only terms that come before
+pub group-small : (arrangement groups : List ℕ) (t : ℕ) → t ≤ length arrangement → GroupsOf arrangement t groups → (k : ℕ) → k < maxTerms → getD groups k 0 < 2 ^ t
+group-small arrangement groups t le of k lt = omega (arith, of .are k lt, members-below k (take t arrangement), ap (λ n. 2 ^ n) (length-take-le t arrangement le))
+
+pub groups-none : (arrangement : List ℕ) → GroupsOf arrangement 0 (padded [])
+groups-none arrangement = record { long = refl; are = λ k lt. zero-entry k lt }
 
 module _ {arrangement groups : List ℕ} {placed used : ℕ} (here : Placing arrangement placed used) (of : GroupsOf arrangement placed groups) where
   -- a set has only terms that are placed
   pub group-below : (k : ℕ) → k < maxTerms → getD groups k 0 < 2 ^ placed
-  group-below k lt = omega (arith, of .are k lt, members-below k (take placed arrangement), ap (λ n. 2 ^ n) (placed-length here))
+  group-below k lt = group-small arrangement groups placed (omega (arith, here .long, here .few-terms)) of k lt
 
   -- the next term in the class c
-  pub groups-next : (c : ℕ) → placed < maxTerms → c < maxTerms → (grown : List ℕ) → grown ≡ set groups c (getD groups c 0 + 2 ^ placed) → GroupsOf (set arrangement placed c) (placed + 1) grown
-  groups-next c room lt grown is = record {
+  pub groups-next : (c : ℕ) → placed < maxTerms → c < maxTerms → (next : List ℕ) → next ≡ set groups c (getD groups c 0 + 2 ^ placed) → GroupsOf (set arrangement placed c) (placed + 1) next
+  groups-next c room lt next is = record {
     long = ap length is ∙ length-set groups c (getD groups c 0 + 2 ^ placed) ∙ of .long;
-    are = λ k h. ap (λ l. getD l k 0) is ∙ go k h (ℕ-discrete k c) ∙ ap (λ p. members p k) (sym (next-taken here c room));
+    are = λ k h. ap (λ l. getD l k 0) (is ∙ ap (λ n. set groups c (getD groups c 0 + 2 ^ n)) (sym (placed-length here)))
+        ∙ grown groups (take placed arrangement) c (of .long) lt (of .are) k h ∙ ap (λ p. members p k) (sym (next-taken here c room));
   }
-    where
-      before : List ℕ
-      before = take placed arrangement
-
-      go : (k : ℕ) → k < maxTerms → Dec (k ≡ c) → getD (set groups c (getD groups c 0 + 2 ^ placed)) k 0 ≡ members (before ++ (c ∷ [])) k
-      go k h (yes e) = ap (λ i. getD (set groups c (getD groups c 0 + 2 ^ placed)) i 0) e ∙ getD-set-same groups c (getD groups c 0 + 2 ^ placed) 0 (omega (arith, of .long))
-          ∙ ap (λ g. g + 2 ^ placed) (of .are c lt) ∙ ap (λ n. members before c + 2 ^ n) (sym (placed-length here)) ∙ sym (members-last c before) ∙ ap (members (before ++ (c ∷ []))) (sym e)
-      go k h (no ne) = getD-set-other groups c k (getD groups c 0 + 2 ^ placed) 0 ne ∙ of .are k h ∙ sym (members-other k before c ne)

@@ -1,4 +1,5 @@
 -- Laws that belong to no one function.
+pub mod RenamingLaws
 pub mod EntryLaws
 pub mod InsertLaws
 pub mod GatherLaws
@@ -13,4 +14,5 @@ pub mod GroupLaws
 pub mod FitLaws
 pub mod OtherLaws
 pub mod SearchedLaws
+pub mod RenamedLaws
 pub mod OneResultLaws

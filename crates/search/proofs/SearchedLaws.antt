@@ -4,7 +4,6 @@ use mathlib.Core.Path.{_≡_, refl, sym, ap, _∙_}
 use mathlib.Core.List.{List, [], map}
 use mathlib.Core.Option.{Option, none, some}
 use native.Mathlib.Omega.{arith}
-use lib.ListN.{take}
 use Rattle.question.specs.declared.refusals.Refusal.{Refusal}
 use Rattle.question.specs.declared.checks.TableCheck.{TableCheck}
 use Rattle.question.specs.declared.checks.TableCheck.the-variants.{Accepted, Refused as RowsRefused}
@@ -15,7 +14,6 @@ use Rattle.theory.specs.Sets.{Test, fits}
 use Rattle.theory.proofs.RuleLaws.{TermsBelow}
 use Rattle.theory.proofs.FirstModelLaws.{firstModel-first, firstModel-none}
 use Rattle.theory.proofs.RowListLaws.{declared-below}
-use Rattle.theory.proofs.SameRowLaws.{firstModel-same}
 use Rattle.row.specs.Rows.{rowOf}
 use Rattle.row.specs.Checks.{rowsChecked}
 use Rattle.row.proofs.AcceptedRows.{rows-keep, all-declared}
@@ -24,7 +22,6 @@ use Rattle.cut.proofs.BehindLaws.{behind-nothing}
 use Rattle.search.specs.declared.answers.Verdict.the-variants.{Possible, Impossible, Refused}
 use Rattle.search.specs.declared.answers.SearchAnswer.{SearchAnswer}
 use Rattle.search.specs.Answers.{padded, withoutModel, answerOf, acceptedThen, searched}
-use Rattle.search.specs.Entries.{Gathered}
 use Rattle.search.specs.Placings.{found}
 
 -- with no term placed, what is found is the first model
@@ -38,10 +35,6 @@ module _ (terms sets : ℕ) (rows : List ℕ) where
 
   abbrev first : Option Solution
   first = firstModel fits terms (2 ^ sets) said
-
-  -- entries that say the same rows have the same first model
-  pub answer-same : (count : ℕ) (table : List ℕ) → Gathered rows count table → (r : SearchAnswer) → r ≡ answerOf (firstModel fits terms (2 ^ sets) (rowsOfEntries (take count table))) → r ≡ answerOf first
-  answer-same count table all r is = is ∙ ap answerOf (firstModel-same fits (2 ^ sets) (rowsOfEntries (take count table)) said (all .says) terms)
 
   module _ (r : SearchAnswer) (check : TableCheck) (checked : check ≡ rowsChecked terms sets rows) where
     pub searched-accepted : check ≡ Accepted → r ≡ answerOf first → r ≡ searched terms sets rows

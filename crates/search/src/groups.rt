@@ -1,8 +1,9 @@
 // Sets of terms: one term's, and those of the classes that stand.
 ghost use mathlib.Core.Path.{_≡_};
-ghost use Prim.Native.Nat.{_+_, _^_, _<_};
+ghost use Prim.Native.Nat.{ℕ, _+_, _^_, _≤_, _<_};
 ghost use lib.ListN.{getD, set};
 ghost use Rattle.question.specs.Limits.{maxTerms};
+ghost use Rattle.search.specs.Placings.{GroupsOf};
 
 // The set of one term.
 pub(crate) fn term_alone(term: usize) -> u32
@@ -22,4 +23,19 @@ pub(crate) fn with_term(groups: [u32; 12], class: u8, term: usize) -> [u32; 12]
     let mut next = groups;
     next[k] = groups[k] + own;
     next
+}
+
+// The sets of the classes of a whole arrangement.
+pub(crate) fn groups_of(arrangement: [u8; 12], terms: usize) -> [u32; 12]
+    requires { ⌜ (terms ≤ maxTerms) × ((t : ℕ) → t < terms → getD arrangement t 0 < maxTerms) ⌝ }
+    ensures { λ r. ⌜ GroupsOf arrangement terms r ⌝ }
+{
+    let mut groups: [u32; 12] = [0; 12];
+    let mut t: usize = 0;
+    while t < terms {
+        let next = with_term(groups, arrangement[t], t);
+        groups = next;
+        t += 1;
+    }
+    groups
 }

@@ -7,6 +7,7 @@ mod memos;
 mod models;
 mod others;
 mod placings;
+mod renamings;
 mod searches;
 
 pub use answers::SearchAnswer;

@@ -1,25 +1,36 @@
 // The search over rows that are handed in: the row check's refusals, else the first model.
 use crate::answers::SearchAnswer;
 use crate::answers::Verdict;
+use crate::answers::is_possible;
 use crate::answers::without_model;
 use crate::entries::gather;
+use crate::groups::groups_of;
+use crate::models::model;
 use crate::others::others_within;
 use crate::placings::place;
+use crate::renamings::PLAIN;
+use crate::renamings::back_from;
+use crate::renamings::by_weight;
+use crate::renamings::is_renaming;
 use question::TableCheck;
 use row::check_rows;
 ghost use mathlib.Core.Path.{_≡_};
 ghost use mathlib.Core.List.{map};
-ghost use Prim.Native.Nat.{_^_, _≤_};
+ghost use Prim.Native.Nat.{ℕ, _^_, _≤_, _<_};
 ghost use lib.Dec.{T};
+ghost use lib.ListN.{length, take};
 ghost use Rattle.question.specs.declared.checks.TableCheck.the-variants.{Accepted};
 ghost use Rattle.question.specs.Limits.{maxSets, maxTerms};
 ghost use Rattle.theory.specs.Solutions.{allRows};
-ghost use Rattle.theory.specs.FirstModels.{firstModel};
+ghost use Rattle.theory.specs.FirstModels.{modelOf, firstModel};
 ghost use Rattle.theory.specs.Sets.{fits, rowDeclared};
+ghost use Rattle.theory.specs.Renamings.{renamedRow};
 ghost use Rattle.row.specs.Rows.{rowOf};
 ghost use Rattle.row.specs.Checks.{rowsChecked};
 ghost use Rattle.mask.specs.Entries.{rowsOfEntries};
 ghost use Rattle.search.specs.Answers.{answerOf, searched};
+ghost use Rattle.search.specs.Renamings.{newName};
+ghost use Rattle.search.specs.Placings.{Placing};
 
 // Entries of declared rows: at first no term is placed, and the memo says nothing.
 fn search_entries(entries: &[u64], terms: usize, sets: u8) -> SearchAnswer
@@ -44,14 +55,71 @@ fn search_entries(entries: &[u64], terms: usize, sets: u8) -> SearchAnswer
     )
 }
 
-// Rows that the check accepts: the first model depends only on which rows there are, so they are searched as entries in another order.
+// Rows that the check accepts, with new numbers for the sets. The table is room for their entries.
+fn search_renamed(
+    rows: &[u32],
+    to: [u8; 16],
+    table: &mut [u64],
+    terms: usize,
+    sets: u8,
+) -> SearchAnswer
+    requires { ⌜ rowsChecked terms sets (now rows) ≡ Accepted ⌝ }
+    requires { ⌜ length (now rows) ≤ length (now table) ⌝ }
+    requires { ⌜ ((x : ℕ) → x < sets → newName to x < sets) ⌝ }
+    ensures { λ r. ⌜ r ≡ answerOf (firstModel fits terms (2 ^ sets) (map (renamedRow (newName to)) (map rowOf (now (rows .entry))))) ⌝ }
+    ensures { λ r. ⌜ length (now (table .exit)) ≡ length (now (table .entry)) ⌝ }
+{
+    let count = gather(rows, to, table);
+    search_entries(&table[..count], terms, sets)
+}
+
+// The first model of rows that the check accepts, from that of the renamed rows: it has the same arrangement, and its masks are the smallest under the plain numbers.
+fn model_again(
+    rows: &[u32],
+    table: &mut [u64],
+    arrangement: [u8; 12],
+    classes: usize,
+    terms: usize,
+    sets: u8,
+) -> SearchAnswer
+    requires { ⌜ rowsChecked terms sets (now rows) ≡ Accepted ⌝ }
+    requires { ⌜ length (now rows) ≤ length (now table) ⌝ }
+    requires { ⌜ Placing arrangement terms classes ⌝ }
+    ensures { λ r. ⌜ r ≡ answerOf (modelOf fits (2 ^ sets) (map rowOf (now (rows .entry))) (take terms arrangement)) ⌝ }
+{
+    let count = gather(rows, PLAIN, table);
+    let groups = groups_of(arrangement, terms);
+    model(
+        &table[..count],
+        arrangement,
+        groups,
+        terms,
+        classes as u8,
+        sets,
+    )
+}
+
+// Rows that the check accepts: the first model depends only on which rows there are, so they are searched as entries in another order;
+// and its arrangement doesn't depend on the numbers of the sets, so they are searched with those under which masks are found soon.
 fn search_accepted(rows: &[u32], terms: usize, sets: u8) -> SearchAnswer
     requires { ⌜ rowsChecked terms sets (now rows) ≡ Accepted ⌝ }
     ensures { λ r. ⌜ r ≡ answerOf (firstModel fits terms (2 ^ sets) (map rowOf (now (rows .entry)))) ⌝ }
 {
     let mut table: [u64; 768] = [0; 768];
-    let count = gather(rows, &mut table);
-    search_entries(&table[..count], terms, sets)
+    let count = gather(rows, PLAIN, &mut table);
+    let to = by_weight(&table[..count], sets);
+    let back = back_from(to, sets);
+    if !is_renaming(to, back, sets) {
+        return search_renamed(rows, PLAIN, &mut table, terms, sets);
+    }
+    let found = search_renamed(rows, to, &mut table, terms, sets);
+    let verdict = found.verdict;
+    if !is_possible(verdict) {
+        return found;
+    }
+    let arrangement = found.arrangement;
+    let classes = found.classes;
+    model_again(rows, &mut table, arrangement, classes, terms, sets)
 }
 
 // The first model of the rows over so many terms and sets, or that there is none, or why the rows are refused.

@@ -21,3 +21,5 @@ pub mod DemandThree
 pub mod RowListLaws
 pub mod AnswerLaws
 pub mod Cases
+pub mod SameArrangementLaws
+pub mod RenamingLaws

@@ -6,6 +6,7 @@ pub mod Rules
 pub mod Solutions
 pub mod FirstModels
 pub mod Sets
+pub mod Renamings
 pub mod Reduction
 pub mod Answers
 pub mod Possible

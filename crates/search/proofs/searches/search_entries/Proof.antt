@@ -1,14 +1,16 @@
 -- `search_entries` starts with no term placed and nothing noted: what is found there is the first model.
 use Prim.Native.Nat.{_+_}
 use mathlib.Core.Path.{_≡_, subst}
+use mathlib.Core.List.{[]}
 use native.Mathlib.Omega.{arith}
 use borrow.Author.Needs.{needs}
 use lib.Dec.{T}
 use Rattle.theory.specs.Solutions.{allRows}
 use Rattle.theory.specs.Sets.{rowDeclared}
 use Rattle.mask.specs.Entries.{rowsOfEntries}
+use Rattle.search.specs.Answers.{padded}
 use Rattle.search.proofs.PlacingLaws.{placing-start}
-use Rattle.search.proofs.GroupLaws.{groups-start}
+use Rattle.search.proofs.GroupLaws.{groups-none}
 use Rattle.search.proofs.MemoLaws.{memo-start}
 use Rattle.search.proofs.SearchedLaws.{answer-first}
 use Rattle.search.proofs.searches.search_entries.Statement.{statement}
@@ -19,7 +21,7 @@ place-requires c κs =
     let s = c .before .before .before in
     let a = s .args in
     let all : a .terms ≡ 0 + a .terms = omega arith in (
-      record { few-sets = s .pre .0 .1; remembered = memo-start (a .entries .now) (a .sets); placing = placing-start; grouped = groups-start },
+      record { few-sets = s .pre .0 .1; remembered = memo-start (a .entries .now) (a .sets); placing = placing-start; grouped = groups-none (padded []) },
       (omega (arith, s .pre .0 .0), (subst (λ n. T (allRows (rowDeclared n (a .sets)) (rowsOfEntries (a .entries .now)))) all (s .pre .1), c .before .others-within .ensures)),
     )
 
