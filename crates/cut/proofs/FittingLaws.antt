@@ -80,13 +80,16 @@ module _ (bound : ℕ) (rows : List (Row Test)) (p : List ℕ) (l : List ℕ) wh
 
 -- the sets for the next term: as they are, or with t in the set k
 module _ (p groups : List ℕ) (used t : ℕ) (here : Grouped p groups used t) where
-  pub grouped-later : Grouped p groups used (t + 1)
-  grouped-later = record {
+  pub grouped-until : (n : ℕ) → t ≤ n → Grouped p groups used n
+  grouped-until n le = record {
     counted = here .counted;
     later = omega (arith, here .later);
-    below = λ k lt. omega (arith, here .below k lt, pow-mono {i = t} {j = t + 1} (omega arith));
+    below = λ k lt. omega (arith, here .below k lt, pow-mono {i = t} {j = n} le);
     agree = here .agree;
   }
+
+  pub grouped-later : Grouped p groups used (t + 1)
+  grouped-later = grouped-until (t + 1) (omega arith)
 
   module _ (k more : ℕ) (lt : k < used) (room : k < length groups) (is : more ≡ getD groups k 0 + 2 ^ t) where
     new-group : (i : ℕ) (P : ℕ → Type 0) → (i ≡ k → P (getD groups k 0 + 2 ^ t)) → P (getD groups i 0) → P (getD (set groups k more) i 0)

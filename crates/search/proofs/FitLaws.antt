@@ -20,10 +20,10 @@ use Rattle.mask.specs.Entries.{rowsOfEntries}
 use Rattle.cut.specs.Members.{members}
 use Rattle.cut.specs.Others.{othersPlaced}
 use Rattle.cut.specs.Fittings.{Inside, Grouped}
-use Rattle.cut.proofs.FittingLaws.{alone-cut, class-with-cut, grouped-later, grouped-next, inside-next, grouped-start, none-found}
+use Rattle.cut.proofs.FittingLaws.{alone-cut, class-with-cut, grouped-until, grouped-later, grouped-next, inside-next, grouped-start, none-found}
 use Rattle.search.specs.Placings.{Placing, GroupsOf, found}
 use Rattle.search.specs.Memos.{maskOfClass, isThere, classCount}
-use Rattle.search.specs.Steps.{NothingFits}
+use Rattle.search.specs.Steps.{NothingFits, FitsNowhere}
 use Rattle.search.proofs.PlacingLaws.{placed-length}
 use Rattle.search.proofs.MemoLaws.{not-there}
 use Rattle.search.proofs.SettledLaws.{settled}
@@ -42,6 +42,52 @@ grown-below groups used t below c lt room grown is k h = subst (λ l. getD l k 0
     go : Dec (k ≡ c) → getD (set groups c (getD groups c 0 + 2 ^ t)) k 0 < 2 ^ (t + 1)
     go (yes e) = omega (arith, ap (λ i. getD (set groups c (getD groups c 0 + 2 ^ t)) i 0) e, getD-set-same groups c (getD groups c 0 + 2 ^ t) 0 room, below c lt, more)
     go (no ne) = omega (arith, getD-set-other groups c k (getD groups c 0 + 2 ^ t) 0 ne, below k h, more)
+
+-- an arrangement of all terms behind the class numbers p, with the sets in its classes
+module _ (entries : List ℕ) (sets : ℕ) (groups : List ℕ) (used term : ℕ) where
+  abbrev NoModel : List ℕ → Type 0
+  NoModel q = modelOf fits (2 ^ sets) (rowsOfEntries entries) q ≡ none
+
+  -- with the term in one of the first n classes there is none
+  abbrev pub LacksTo : ℕ → Type 0
+  LacksTo n = (p : List ℕ) → Grouped p groups used term → T (othersPlaced (length p) (rowsOfEntries entries)) → (l : List ℕ) → term < length p + length l → Inside groups used (p ++ l) → classOf (p ++ l) term < n → NoModel (p ++ l)
+
+  pub lacks-none : LacksTo 0
+  lacks-none p g o l there i lt = absurd (omega arith)
+
+  module _ (few : term < maxTerms) where
+    module _ (p : List ℕ) (here : Grouped p groups used term) (others : T (othersPlaced (length p) (rowsOfEntries entries))) (l : List ℕ) (there : term < length p + length l) where
+      unmasked : (class own : ℕ) → class ≡ own → (has : Bool) → has ≡ isThere (maskOfClass entries sets class maxTerms) → has ≡ false → maskOfClass entries sets own (length p) ≡ none
+      unmasked class own is has told lacks = subst (λ c. maskOfClass entries sets c (length p) ≡ none) is
+          (settled entries sets (length p) class (omega (arith, here .later)) others (not-there (maskOfClass entries sets class maxTerms) (sym told ∙ lacks)))
+
+      -- the term is in the class k, which with it has no mask
+      lacks-here : (k class own : ℕ) → k < used → class ≡ getD groups k 0 + own → own ≡ 2 ^ term → (has : Bool) → has ≡ isThere (maskOfClass entries sets class maxTerms) → has ≡ false →
+          Inside groups used (p ++ l) → classOf (p ++ l) term ≡ k → NoModel (p ++ l)
+      lacks-here k class own lt is alone has told lacks inside at-k = class-with-cut (2 ^ sets) (rowsOfEntries entries) p l term there groups used k here lt inside at-k
+          (unmasked class (getD groups k 0 + 2 ^ term) (is ∙ ap (λ n. getD groups k 0 + n) alone) has told lacks)
+
+      -- the term is in none of those classes, and has no mask alone
+      lacks-alone : (own : ℕ) → own ≡ 2 ^ term → (has : Bool) → has ≡ isThere (maskOfClass entries sets own maxTerms) → has ≡ false → used ≤ classOf (p ++ l) term → NoModel (p ++ l)
+      lacks-alone own alone has told lacks past = alone-cut (2 ^ sets) (rowsOfEntries entries) p l term there (here .later) (omega (arith, here .counted)) (unmasked own (2 ^ term) alone has told lacks)
+
+    pub lacks-more : (k class own : ℕ) → k < used → class ≡ getD groups k 0 + own → own ≡ 2 ^ term → (has : Bool) → has ≡ isThere (maskOfClass entries sets class maxTerms) → has ≡ false → LacksTo k → LacksTo (k + 1)
+    lacks-more k class own lt is alone has told lacks before p g o l there i h = go (decLt (classOf (p ++ l) term) k)
+      where
+        go : Dec (classOf (p ++ l) term < k) → NoModel (p ++ l)
+        go (yes b) = before p g o l there i b
+        go (no b) = lacks-here p g o l there k class own lt is alone has told lacks i (omega arith)
+
+    pub lacks-all : (n own : ℕ) → used ≤ n → own ≡ 2 ^ term → (has : Bool) → has ≡ isThere (maskOfClass entries sets own maxTerms) → has ≡ false → LacksTo n → FitsNowhere entries sets groups used term
+    lacks-all n own past alone has told lacks tried p g o l there i = go (decLt (classOf (p ++ l) term) n)
+      where
+        go : Dec (classOf (p ++ l) term < n) → NoModel (p ++ l)
+        go (yes b) = tried p g o l there i b
+        go (no b) = lacks-alone p g o l there own alone has told lacks (omega arith)
+
+-- where one later term fits nowhere, nothing fits
+pub one-fits-nowhere : (entries : List ℕ) (sets : ℕ) (groups : List ℕ) (used term left t : ℕ) → term ≤ t → t < term + left → FitsNowhere entries sets groups used t → NothingFits entries sets groups used term left
+one-fits-nowhere entries sets groups used term left t low high nowhere p g o l e i = nowhere p (grouped-until p groups used term g t low) o l (omega arith) i
 
 module _ (entries : List ℕ) (sets : ℕ) (groups : List ℕ) (used term left : ℕ) where
   -- with the term in one of the first n classes, nothing fits
@@ -68,9 +114,7 @@ module _ (entries : List ℕ) (sets : ℕ) (groups : List ℕ) (used term left :
 
       -- the class with the term has no mask
       pub tried-lacks : (class own : ℕ) → class ≡ getD groups k 0 + own → own ≡ 2 ^ term → (has : Bool) → has ≡ isThere (maskOfClass entries sets class maxTerms) → has ≡ false → TriedTo (k + 1)
-      tried-lacks class own is alone has told lacks = one-more (λ p g o l e i at-k. class-with-cut (2 ^ sets) (rowsOfEntries entries) p l term (omega arith) groups used k g lt i at-k
-          (subst (λ c. maskOfClass entries sets c (length p) ≡ none) (is ∙ ap (λ n. getD groups k 0 + n) alone)
-          (settled entries sets (length p) class (omega (arith, g .later)) o (not-there (maskOfClass entries sets class maxTerms) (sym told ∙ lacks)))))
+      tried-lacks class own is alone has told lacks = one-more (λ p g o l e i at-k. lacks-here entries sets groups used term (omega arith) p g o l (omega arith) k class own lt is alone has told lacks i at-k)
 
       -- with the term in the class, the others don't fit
       pub tried-stuck : (next : List ℕ) → k < length groups → next ≡ set groups k (getD groups k 0 + 2 ^ term) → NothingFits entries sets next used (term + 1) (left - 1) → TriedTo (k + 1)
@@ -85,8 +129,7 @@ module _ (entries : List ℕ) (sets : ℕ) (groups : List ℕ) (used term left :
       where
         go : Dec (classOf (p ++ l) term < n) → modelOf fits (2 ^ sets) (rowsOfEntries entries) (p ++ l) ≡ none
         go (yes b) = tried p g o l e i b
-        go (no b) = alone-cut (2 ^ sets) (rowsOfEntries entries) p l term (omega arith) (g .later) (omega (arith, g .counted))
-            (subst (λ c. maskOfClass entries sets c (length p) ≡ none) alone (settled entries sets (length p) own (omega (arith, g .later)) o (not-there (maskOfClass entries sets own maxTerms) (sym told ∙ lacks))))
+        go (no b) = lacks-alone entries sets groups used term (omega arith) p g o l (omega arith) own alone has told lacks (omega arith)
 
 -- where the later terms don't fit, nothing is found
 pub unfit-cut : {arrangement groups : List ℕ} {placed used : ℕ} → Placing arrangement placed used → GroupsOf arrangement placed groups → (entries : List ℕ) (sets left : ℕ) →

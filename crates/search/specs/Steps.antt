@@ -1,12 +1,16 @@
 -- What a step of the search may rely on.
-use Prim.Native.Nat.{ℕ, _+_, _^_, _≤_}
-use mathlib.Core.List.{List}
+use Prim.Native.Nat.{ℕ, _+_, _^_, _≤_, _<_}
+use mathlib.Core.Path.{_≡_}
+use mathlib.Core.List.{List, _++_}
+use mathlib.Core.Option.{none}
 use lib.Dec.{T}
 use lib.ListN.{length}
 use Rattle.question.specs.Limits.{maxSets}
+use Rattle.theory.specs.FirstModels.{modelOf}
+use Rattle.theory.specs.Sets.{fits}
 use Rattle.mask.specs.Entries.{rowsOfEntries}
 use Rattle.cut.specs.Others.{othersPlaced}
-use Rattle.cut.specs.Fittings.{Grouped, NoneFits}
+use Rattle.cut.specs.Fittings.{Inside, Grouped, NoneFits}
 use Rattle.search.specs.Placings.{Placing, GroupsOf}
 use Rattle.search.specs.Memos.{Memo}
 
@@ -21,3 +25,8 @@ pub record Standing (entries : List ℕ) (sets : ℕ) (memo arrangement groups :
 abbrev pub NothingFits : List ℕ → ℕ → List ℕ → ℕ → ℕ → ℕ → Type 0
 NothingFits entries sets groups used term left =
     (p : List ℕ) → Grouped p groups used term → T (othersPlaced (length p) (rowsOfEntries entries)) → NoneFits (2 ^ sets) (rowsOfEntries entries) p groups used (term + left)
+
+-- this later term fits into no class that stands, and not alone
+abbrev pub FitsNowhere : List ℕ → ℕ → List ℕ → ℕ → ℕ → Type 0
+FitsNowhere entries sets groups used term =
+    (p : List ℕ) → Grouped p groups used term → T (othersPlaced (length p) (rowsOfEntries entries)) → (l : List ℕ) → term < length p + length l → Inside groups used (p ++ l) → modelOf fits (2 ^ sets) (rowsOfEntries entries) (p ++ l) ≡ none

@@ -14,7 +14,7 @@ ghost use Rattle.mask.specs.Entries.{rowsOfEntries};
 ghost use Rattle.cut.specs.Others.{othersPlaced};
 ghost use Rattle.search.specs.Placings.{found};
 ghost use Rattle.search.specs.Memos.{Memo};
-ghost use Rattle.search.specs.Steps.{Standing, NothingFits};
+ghost use Rattle.search.specs.Steps.{Standing, NothingFits, FitsNowhere};
 
 // The class of the last term placed has no mask under the rows in force.
 fn last_class_fails(
@@ -59,6 +59,62 @@ fn some_class_fails(
         k += 1;
     }
     false
+}
+
+// Has this later term, alone or in a class that stands, a set of terms with a mask.
+fn fits_somewhere(
+    entries: &[u64],
+    memo: &mut [u8],
+    groups: [u32; 12],
+    used: u8,
+    term: usize,
+    sets: u8,
+) -> bool
+    requires { ⌜ (sets ≤ maxSets) × (used ≤ maxTerms) × (term < maxTerms) ⌝ }
+    requires { ⌜ Memo (now entries) sets (now memo) ⌝ }
+    requires { ⌜ ((k : ℕ) → k < used → getD groups k 0 < 2 ^ term) ⌝ }
+    ensures { λ r. ⌜ (r ≡ false → FitsNowhere (now (entries .entry)) sets groups used term) ⌝ }
+    ensures { λ r. ⌜ Memo (now (entries .entry)) sets (now (memo .exit)) ⌝ }
+{
+    let own = term_alone(term);
+    if has_mask_at_all(entries, memo, own, sets) {
+        return true;
+    }
+    let mut k: u8 = 0;
+    while k < used {
+        let class = groups[k as usize] + own;
+        if has_mask_at_all(entries, memo, class, sets) {
+            return true;
+        }
+        k += 1;
+    }
+    false
+}
+
+// Has each of so many later terms, whatever the others do.
+fn each_fits(
+    entries: &[u64],
+    memo: &mut [u8],
+    groups: [u32; 12],
+    used: u8,
+    term: usize,
+    left: usize,
+    sets: u8,
+) -> bool
+    requires { ⌜ (sets ≤ maxSets) × (used ≤ maxTerms) × (term + left ≤ maxTerms) ⌝ }
+    requires { ⌜ Memo (now entries) sets (now memo) ⌝ }
+    requires { ⌜ ((k : ℕ) → k < used → getD groups k 0 < 2 ^ term) ⌝ }
+    ensures { λ r. ⌜ (r ≡ false → NothingFits (now (entries .entry)) sets groups used term left) ⌝ }
+    ensures { λ r. ⌜ Memo (now (entries .entry)) sets (now (memo .exit)) ⌝ }
+{
+    let mut t = term;
+    while t < term + left {
+        if !fits_somewhere(entries, memo, groups, used, t, sets) {
+            return false;
+        }
+        t += 1;
+    }
+    true
 }
 
 // So many later terms from `term` on, each alone or in a class that stands, as far as sets of terms have masks. A term that has one alone is in nobody's way.
@@ -123,6 +179,9 @@ pub(crate) fn hopeless(
         return last_class_fails(entries, memo, arrangement, groups, placed, used, sets);
     }
     if some_class_fails(entries, memo, arrangement, groups, placed, used, sets) {
+        return true;
+    }
+    if !each_fits(entries, memo, groups, used, placed, left, sets) {
         return true;
     }
     !fit_together(entries, memo, groups, used, placed, left, sets)

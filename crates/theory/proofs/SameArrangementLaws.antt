@@ -1,11 +1,10 @@
 -- Rows that have solutions in the same arrangements: their first models have one arrangement.
 use Prim.Native.Nat.{ℕ}
-use mathlib.Core.Path.{_≡_, refl, sym, ap, subst, _∙_}
+use mathlib.Core.Path.{_≡_, refl, sym, ap, _∙_}
 use mathlib.Core.Bool.{Bool}
 use mathlib.Core.List.{List}
 use mathlib.Core.Logic.{inl, inr}
 use mathlib.Core.Option.{Option, none, some}
-use Rattle.theory.specs.Arrangements.{Before}
 use Rattle.theory.specs.Rules.{Row}
 use Rattle.theory.specs.Solutions.{Solution, withMasks, IsSolution}
 use Rattle.theory.specs.FirstModels.{modelOf, firstModel, IsFirstModel}
