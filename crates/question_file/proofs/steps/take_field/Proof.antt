@@ -67,5 +67,3 @@ take-field-spec =
     (λ c κs. search needs)
     returns-3
     returns-4)
-
--- x611327
