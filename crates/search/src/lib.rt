@@ -2,6 +2,7 @@
 mod answers;
 mod cuts;
 mod entries;
+mod fittings;
 mod groups;
 mod memos;
 mod models;

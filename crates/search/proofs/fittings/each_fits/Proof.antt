@@ -8,8 +8,8 @@ use borrow.Author.Tests.{not-true}
 use lib.Pow.{pow-mono}
 use Rattle.search.specs.Memos.{Memo}
 use Rattle.search.proofs.FitLaws.{one-fits-nowhere}
-use Rattle.search.proofs.cuts.each_fits.Statement.{statement}
-use Rattle.search.proofs.cuts.each_fits.Tie as tie
+use Rattle.search.proofs.fittings.each_fits.Statement.{statement}
+use Rattle.search.proofs.fittings.each_fits.Tie as tie
 
 abbrev Inv-loop : tie.InvT-loop
 Inv-loop entries memo₀ groups used term left sets t₀ memo t = (term ≤ t) × (t ≤ term + left) × Memo entries sets memo

@@ -9,8 +9,8 @@ use lib.Pow.{pow-pos}
 use Rattle.question.specs.Limits.{maxTerms}
 use Rattle.search.specs.Memos.{classCount, Memo}
 use Rattle.search.proofs.FitLaws.{small-set, LacksTo, lacks-none, lacks-more, lacks-all}
-use Rattle.search.proofs.cuts.fits_somewhere.Statement.{statement}
-use Rattle.search.proofs.cuts.fits_somewhere.Tie as tie
+use Rattle.search.proofs.fittings.fits_somewhere.Statement.{statement}
+use Rattle.search.proofs.fittings.fits_somewhere.Tie as tie
 
 abbrev Inv-loop : tie.InvT-loop
 Inv-loop entries memo₀ used term sets groups own k₀ memo k = (k ≤ used) × LacksTo entries sets groups used term k × Memo entries sets memo

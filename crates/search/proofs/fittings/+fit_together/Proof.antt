@@ -16,11 +16,11 @@ use Rattle.search.proofs.FitLaws.{TriedTo, tried-none, fits-later, trie
 use Rattle.search.proofs.groups.term_alone.Reads as term-alone
 use Rattle.search.proofs.groups.with_term.Reads as with-term
 use Rattle.search.proofs.memos.has_mask_at_all.Reads as has-mask-at-all
-use Rattle.search.proofs.cuts.fit_together.Reads as fit-together
-use Rattle.search.proofs.cuts.fit_together.Kinds as kinds
-use Rattle.search.proofs.cuts.+fit_together.Lts-fit_together as lts
-use Rattle.search.proofs.cuts.+fit_together.{statement}
-use Rattle.search.proofs.cuts.+fit_together.Tie.{close}
+use Rattle.search.proofs.fittings.fit_together.Reads as fit-together
+use Rattle.search.proofs.fittings.fit_together.Kinds as kinds
+use Rattle.search.proofs.fittings.+fit_together.Lts-fit_together as lts
+use Rattle.search.proofs.fittings.+fit_together.{statement}
+use Rattle.search.proofs.fittings.+fit_together.Tie.{close}
 
 -- how many terms are left
 abbrev μ-fit-together : Measures 2 kinds.ps ℕ
