@@ -12,6 +12,7 @@ pub mod StatementBytesLaws
 pub mod WriterLaws
 -- Both round trips:
 pub mod ReadBackLaws
+pub mod FieldLaws
 pub mod AcceptedFileLaws
 pub mod RoundTrips
 pub mod RefusalLaws

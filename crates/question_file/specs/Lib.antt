@@ -3,5 +3,6 @@ pub mod Bodies
 pub mod Bytes
 pub mod Frames
 pub mod Steps
+pub mod Fields
 pub mod Reads
 pub mod Writes

@@ -1,5 +1,6 @@
 // Question files: bytes to a question or a refusal, field by field, and a question to bytes.
 mod bodies;
+mod fields;
 mod frames;
 mod reads;
 mod steps;

@@ -1,8 +1,11 @@
 // The reader of question files: bytes to a question, or a refusal with its number and place.
-use crate::steps::Next;
-use crate::steps::read_field;
+use crate::fields::Said;
+use crate::fields::field_at;
+use crate::steps::declare;
 use question::Question;
+use question::Record;
 use question::Refusal;
+use question::witness_of;
 ghost use mathlib.Core.Path.{_≡_};
 ghost use Rattle.question.specs.Refusals.{refusal};
 ghost use Rattle.question_file.specs.Reads.{refusedFile, readQuestion};
@@ -37,28 +40,33 @@ pub fn read_question(bytes: &[u8]) -> ReadQuestion
     ensures { λ r. ⌜ r ≡ readQuestion (now (bytes .entry)) ⌝ }
 {
     let mut at: usize = 0;
+    let mut total: usize = 0;
     let mut q = Question::empty();
     loop {
-        let step = read_field(bytes, at, q);
-        let next = step.next;
-        match next {
-            Next::More(place) => {
-                let question = step.question;
-                q = question;
-                at = place;
+        let count = q.count;
+        match field_at(bytes, at, q.elements, q.sets, count, total) {
+            Said::Names(elements, sets, next) => {
+                q = declare(elements, sets);
+                total = elements as usize;
+                at = next;
             }
-            Next::End(place) => {
+            Said::Stated(s, next) => {
+                total += witness_of(s);
+                q.table[count] = Record { statement: s };
+                q.count = count + 1;
+                at = next;
+            }
+            Said::Ended(place) => {
                 if place < bytes.len() {
                     return refuse_file(Refusal::BYTES_AFTER_END, place);
                 }
-                let question = step.question;
                 return ReadQuestion {
                     outcome: FileCheck::Accepted,
-                    question: question,
+                    question: q,
                 };
             }
-            Next::Refused(refusal) => {
-                return refuse_file(refusal.number, refusal.place);
+            Said::Refused(number) => {
+                return refuse_file(number, at);
             }
         }
     }

@@ -7,43 +7,44 @@ use borrow.Author.Needs.{needs}
 use borrow.Author.Tests.{eq-eqb, ne-eqb}
 use lib.Dec.{eqb}
 use lib.ListN.{drop}
+use Rattle.question.specs.declared.questions.Question.{Question}
 use Rattle.question_file.specs.declared.steps.Next.the-variants.{End}
 use Rattle.question_file.specs.Bodies.{statementOf}
 use Rattle.question_file.specs.Steps.{namesStep, madeStep, taken}
 use Rattle.question_file.proofs.FrameLaws.{body-byte}
-use Rattle.question_file.proofs.steps.take_field.Statement.{statement}
-use Rattle.question_file.proofs.steps.take_field.Tie as tie
+use Rattle.question_file.proofs.fields.take_field.Statement.{statement}
+use Rattle.question_file.proofs.fields.take_field.Tie as tie
 
 -- the definition with what the calls gave
-asked : (c : tie.After-byte-at3) →
+asked : (c : tie.After-byte-at3) (q : Question) →
     let a = c .before .before .before .before .args in
     let next = a .at + (3 + a .n) in
-    taken (a .tag) (drop 3 (drop (a .at) (now (a .bytes)))) (a .at) next (a .q) ≡
+    taken (a .tag) (drop 3 (drop (a .at) (now (a .bytes)))) (a .at) next q ≡
     cond (eqb (a .tag) 0x01) (namesStep (c .before .before .byte-at .result) (c .before .byte-at2 .result) (a .at) next)
-    (cond (eqb (a .tag) 0x7f) (record { next = End next; question = a .q })
-    (madeStep (statementOf (a .tag) (c .before .before .byte-at .result) (c .before .byte-at2 .result) (c .byte-at3 .result)) (a .at) next (a .q)))
+    (cond (eqb (a .tag) 0x7f) (record { next = End next; question = q })
+    (madeStep (statementOf (a .tag) (c .before .before .byte-at .result) (c .before .byte-at2 .result) (c .byte-at3 .result)) (a .at) next q))
 unfolding taken
-asked c =
+asked c q =
     let a = c .before .before .before .before .args in
     rw (c .before .before .byte-at .ensures, c .before .byte-at2 .ensures, c .byte-at3 .ensures, body-byte (now (a .bytes)) (a .at) 0, body-byte (now (a .bytes)) (a .at) 1, body-byte (now (a .bytes)) (a .at) 2)
 
 returns : tie.Need-returns
-returns c = c .take-names .ensures ∙ sym (rw (eq-eqb _ _ (c .before .if1 .taken)) at (asked (c .before .before)))
+returns c q k = c .take-names .ensures _ q ∙ sym (rw (eq-eqb _ _ (c .before .if1 .taken)) at (asked (c .before .before) q))
 
 returns-2 : tie.Need-returns-2
-returns-2 c = sym (rw (ne-eqb _ _ (c .before .if1 .left), eq-eqb _ _ (c .if2 .taken)) at (asked (c .before .before)))
+returns-2 c q k = sym (rw (ne-eqb _ _ (c .before .if1 .left), eq-eqb _ _ (c .if2 .taken)) at (asked (c .before .before) q))
 
 returns-3 : tie.Need-returns-3
-returns-3 c =
+returns-3 c q k =
     let e = c .before .before .before .before in
     let made = sym (e .statement-of .ensures) ∙ c .before .before .s .given .1 in
-    c .take-statement .ensures ∙ sym (rw (ne-eqb _ _ (e .before .before .if1 .left), ne-eqb _ _ (e .before .if2 .left), made) at (asked (e .before .before .before)))
+    c .take-statement .ensures _ q k ∙ sym (rw (ne-eqb _ _ (e .before .before .if1 .left), ne-eqb _ _ (e .before .if2 .left), made) at (asked (e .before .before .before) q))
 
 returns-4 : tie.Need-returns-4
-returns-4 c =
-    let e = c .before .before .before in
-    let made = sym (e .statement-of .ensures) ∙ c .before .enum-told .given .1 in
-    c .refuse .ensures ∙ sym (rw (ne-eqb _ _ (e .before .before .if1 .left), ne-eqb _ _ (e .before .if2 .left), made) at (asked (e .before .before .before)))
+returns-4 c q k =
+    let e = c .before .before in
+    let made = sym (e .statement-of .ensures) ∙ c .enum-told .given .1 in
+    sym (rw (ne-eqb _ _ (e .before .before .if1 .left), ne-eqb _ _ (e .before .if2 .left), made) at (asked (e .before .before .before) q))
 
 pub take-field-spec : {M : Type 1} → statement M
 take-field-spec =
@@ -64,6 +65,5 @@ take-field-spec =
     (λ c. search needs)
     (λ c κs. search needs)
     (λ c. search needs)
-    (λ c κs. search needs)
     returns-3
     returns-4)
