@@ -106,8 +106,7 @@ fn search_accepted(rows: &[u32], terms: usize, sets: u8) -> SearchAnswer
     ensures { λ r. ⌜ r ≡ answerOf (firstModel fits terms (2 ^ sets) (map rowOf (now (rows .entry)))) ⌝ }
 {
     let mut table: [u64; 768] = [0; 768];
-    let count = gather(rows, PLAIN, &mut table);
-    let to = by_weight(&table[..count], sets);
+    let to = by_weight(rows, sets);
     let back = back_from(to, sets);
     if !is_renaming(to, back, sets) {
         return search_renamed(rows, PLAIN, &mut table, terms, sets);

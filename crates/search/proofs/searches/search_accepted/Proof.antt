@@ -3,7 +3,6 @@ use mathlib.Core.Path.{sym, _∙_}
 use native.Mathlib.Omega.{arith}
 use borrow.Author.Needs.{needs}
 use borrow.Author.Tests.{not-true, not-false}
-use lib.Seq.{length-take-le}
 use Rattle.row.proofs.AcceptedRows.{RowsAccepted, rows-keep, all-declared}
 use Rattle.search.proofs.RenamingLaws.{plain-stays}
 use Rattle.search.proofs.RenamedLaws.{answer-plain, answer-none, found-placing, answer-some}
@@ -15,7 +14,7 @@ kept s = rows-keep (s .args .terms) (s .args .sets) (s .args .rows .now) (s .pre
 
 returns : tie.Need-returns
 returns c =
-    let s = c .before .before .before .before .before .before .before .before .before .before .before .before in
+    let s = c .before .before .before .before .before .before .before .before in
     let a = s .args in
     answer-plain (a .terms) (a .sets) (a .rows .now) (all-declared (a .terms) (a .sets) (a .rows .now) (kept s .all-good)) (kept s .few-sets) (c .before .search-renamed .result) (c .before .search-renamed .ensures .0)
 
@@ -23,7 +22,7 @@ returns-2 : tie.Need-returns-2
 returns-2 c =
     let found = c .before .before .before .search-renamed2 in
     let asked = c .before .before .before .before .before .before in
-    let s = asked .before .before .before .before .before .before .before .before in
+    let s = asked .before .before .before .before in
     let a = s .args in
     answer-none (a .terms) (a .sets) (a .rows .now) (all-declared (a .terms) (a .sets) (a .rows .now) (kept s .all-good)) (asked .before .before .by-weight .result) (asked .before .back-from .result)
     (asked .is-renaming .ensures (not-false (asked .is-renaming .result) (c .before .before .before .before .before .if1 .left))) (found .result) (found .ensures .0)
@@ -34,7 +33,7 @@ model-again-requires c κs =
     let possible = c .before .before .before in
     let found = possible .before .before .search-renamed2 in
     let asked = possible .before .before .before .before .before in
-    let s = asked .before .before .before .before .before .before .before .before in
+    let s = asked .before .before .before .before in
     let a = s .args in (
       s .pre,
       (
@@ -50,7 +49,7 @@ returns-3 c =
     let possible = c .before .before .before .before .before in
     let found = possible .before .before .search-renamed2 in
     let asked = possible .before .before .before .before .before in
-    let s = asked .before .before .before .before .before .before .before .before in
+    let s = asked .before .before .before .before in
     let a = s .args in
     answer-some (a .terms) (a .sets) (a .rows .now) (all-declared (a .terms) (a .sets) (a .rows .now) (kept s .all-good)) (asked .before .before .by-weight .result) (asked .before .back-from .result)
     (asked .is-renaming .ensures (not-false (asked .is-renaming .result) (possible .before .before .before .before .if1 .left))) (found .result) (found .ensures .0) (kept s .few-terms)
@@ -60,18 +59,14 @@ pub search-accepted-spec : {M : Type 1} → statement M
 search-accepted-spec =
     tie.close
     (tie.spec
+    (λ c κs. kept (c .before) .few-sets)
+    (λ c κs. kept (c .before .before) .few-sets)
+    (λ c κs. kept (c .before .before .before) .few-sets)
     (λ c. search needs)
-    (λ c κs. kept (c .before .before) .few-rows)
-    (λ c. search needs)
-    (λ c. sym (length-take-le _ _ (c .before .before .gather .ensures .0 .few)))
-    (λ c κs. kept (c .before .before .before .before .before) .few-sets)
-    (λ c κs. kept (c .before .before .before .before .before .before) .few-sets)
-    (λ c κs. kept (c .before .before .before .before .before .before .before) .few-sets)
-    (λ c. search needs)
-    (λ c κs. let s = c .before .before .before .before .before .before .before .before .before .before in (s .pre, (omega (arith, kept s .few-rows, c .before .before .before .before .before .before .before .gather .ensures .1), λ x lt. omega (arith, plain-stays (s .args .sets) (kept s .few-sets) x lt))))
+    (λ c κs. let s = c .before .before .before .before .before .before in (s .pre, (kept s .few-rows, λ x lt. omega (arith, plain-stays (s .args .sets) (kept s .few-sets) x lt))))
     returns
     (λ c. search needs)
-    (λ c κs. let s = c .before .before .before .before .before .before .before .before .before .before in let asked = c .before .before in (s .pre, (omega (arith, kept s .few-rows, c .before .before .before .before .before .before .before .gather .ensures .1), λ x lt. asked .is-renaming .ensures (not-false (asked .is-renaming .result) (c .before .if1 .left)) x lt .0)))
+    (λ c κs. let asked = c .before .before in let s = asked .before .before .before .before in (s .pre, (kept s .few-rows, λ x lt. asked .is-renaming .ensures (not-false (asked .is-renaming .result) (c .before .if1 .left)) x lt .0)))
     (λ c κs. search needs)
     returns-2
     (λ c. search needs)
