@@ -1,4 +1,4 @@
--- What a step of the search may rely on.
+-- What a step of the search may rely on, and what it tells of later terms.
 use Prim.Native.Nat.{ℕ, _+_, _^_, _≤_, _<_}
 use mathlib.Core.Path.{_≡_}
 use mathlib.Core.List.{List, _++_}

@@ -14,12 +14,12 @@ pub mod MaskLaws
 pub mod FirstModelLaws
 pub mod CutLaws
 pub mod SameRowLaws
+pub mod SameArrangementLaws
 pub mod AskedLaws
 pub mod PlaceLaws
 pub mod MeaningLaws
 pub mod DemandThree
 pub mod RowListLaws
+pub mod RenamingLaws
 pub mod AnswerLaws
 pub mod Cases
-pub mod SameArrangementLaws
-pub mod RenamingLaws
