@@ -1,5 +1,5 @@
 -- Which answers are good: what the count of the classes and the test of the masks tell, and that a good answer has no more classes than terms.
-use Prim.Native.Nat.{ℕ, suc, _+_, _≤_, max}
+use Prim.Native.Nat.{ℕ, suc, _≤_, max}
 use mathlib.Core.Path.{_≡_, refl, ap, _∙_}
 use mathlib.Core.Bool.{Bool, true, false, _&&_, cond}
 use mathlib.Core.List.{List, [], _∷_}
@@ -8,8 +8,9 @@ use native.Mathlib.Omega.{arith}
 use borrow.Author.Tests.{leb-true}
 use lib.Dec.{leb}
 use lib.ListN.{length, take, length-take}
-use Rattle.theory.specs.Arrangements.{classesAfter, classes}
+use Rattle.theory.specs.Arrangements.{MayFollow, classes}
 use Rattle.theory.specs.Solutions.{Solution}
+use Rattle.theory.proofs.ArrangementLaws.{classes-few as few-classes}
 use Rattle.field.proofs.Never.{never}
 use Rattle.answer.specs.declared.answers.Verdict.{Verdict}
 use Rattle.answer.specs.declared.answers.Verdict.the-variants.{Possible, Impossible}
@@ -24,17 +25,17 @@ pub and-true : (a b : Bool) → (a && b) ≡ true → (a ≡ true) × (b ≡ tru
 and-true true b e = (refl, e)
 and-true false b e = never cc
 
--- class numbers by the rule make at most one class each
-few-classes : (used : ℕ) (l : List ℕ) → mayFollow used l ≡ true → classesAfter used l ≤ used + length l
+-- class numbers that pass the test follow the rule
+pub follows : (used : ℕ) (l : List ℕ) → mayFollow used l ≡ true → MayFollow used l
 unfolding mayFollow
-few-classes used [] e = omega arith
-few-classes used (c ∷ l) e =
+follows used [] e = tt
+follows used (c ∷ l) e =
     let b = and-true (leb c used) (mayFollow (max used (suc c)) l) e in
-    omega (arith, leb-true c used (b .0), few-classes (max used (suc c)) l (b .1))
+    (leb-true c used (b .0), follows (max used (suc c)) l (b .1))
 
 module _ (l : List ℕ) where
   pub classes-few : isArrangement l ≡ true → classes l ≤ length l
-  classes-few e = omega (arith, few-classes 0 l e)
+  classes-few e = omega (arith, few-classes 0 l (follows 0 l e))
 
   pub counted : (n : ℕ) → classCount l ≡ Classes n → (isArrangement l ≡ true) × (n ≡ classes l)
   counted n e = go (isArrangement l) refl e

@@ -5,8 +5,8 @@ use mathlib.Core.Bool.{true}
 use mathlib.Core.List.{List, [], _∷_}
 use mathlib.Core.Option.{Option, none, some}
 use native.Mathlib.Omega.{arith}
-use borrow.Author.Tests.{leb-true, ltb-true, le-leb, lt-ltb}
-use lib.Dec.{leb, ltb}
+use borrow.Author.Tests.{ltb-true, le-leb, lt-ltb}
+use lib.Dec.{ltb}
 use lib.ListN.{length, getD, take}
 use lib.Seq.{length-take-le}
 use Rattle.question.specs.Limits.{maxTerms}
@@ -18,14 +18,7 @@ use Rattle.answer.specs.declared.answers.Answer.{Answer}
 use Rattle.answer.specs.Answers.{saidBy, said, padded, asAnswer, HasTwelve, IsArranged, MaySay}
 use Rattle.answer.specs.Checks.{mayFollow, isArrangement, allBelow, isGood}
 use Rattle.answer.proofs.PaddedLaws.{padded-length, take-padded}
-use Rattle.answer.proofs.GoodLaws.{and-true, classes-few}
-
-follows : (used : ℕ) (l : List ℕ) → mayFollow used l ≡ true → MayFollow used l
-unfolding mayFollow
-follows used [] e = tt
-follows used (c ∷ l) e =
-    let b = and-true (leb c used) (mayFollow (max used (suc c)) l) e in
-    (leb-true c used (b .0), follows (max used (suc c)) l (b .1))
+use Rattle.answer.proofs.GoodLaws.{and-true, follows, classes-few}
 
 follow-tested : (used : ℕ) (l : List ℕ) → MayFollow used l → mayFollow used l ≡ true
 unfolding mayFollow

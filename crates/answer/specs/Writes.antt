@@ -13,7 +13,7 @@ use Rattle.question.specs.Questions.{termsOf}
 use Rattle.question.specs.Checks.{checked}
 use Rattle.theory.specs.Solutions.{Solution}
 use Rattle.theory.specs.Answers.{maskBound}
-use Rattle.outcome.specs.Over.{over}
+use Rattle.outcome.specs.Over.{fittedOver}
 use Rattle.answer.specs.declared.answers.Answer.{Answer}
 use Rattle.answer.specs.declared.writes.AnswerWritten.{AnswerWritten}
 use Rattle.answer.specs.declared.writes.AnswerWritten.the-variants.{Bytes, Refused}
@@ -24,9 +24,6 @@ use Rattle.answer.specs.Checks.{isGood}
 -- some bytes where there is room for so many: 10 if they are more
 abbrev pub fitted : List ℕ → ℕ → AnswerWritten
 fitted bytes room = cond (ltb room (length bytes)) (Refused (refusal bufferTooShort 0)) (Bytes (length bytes))
-
-abbrev pub fittedOver : List ℕ → List ℕ → List ℕ
-fittedOver bytes old = cond (ltb (length old) (length bytes)) old (over bytes old)
 
 -- before it 11, for an answer that is not good
 unfoldable pub goodWritten : ℕ → Option Solution → ℕ → AnswerWritten

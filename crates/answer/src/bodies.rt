@@ -8,7 +8,7 @@ ghost use Rattle.answer.specs.Answers.{padded};
 ghost use Rattle.answer.specs.Bodies.{masksIn};
 
 // The class numbers from a place on, and 0 past them.
-pub fn numbers_at(bytes: &[u8], at: usize, terms: usize) -> [u8; 12]
+pub(crate) fn numbers_at(bytes: &[u8], at: usize, terms: usize) -> [u8; 12]
     requires { ⌜ (terms ≤ maxTerms) × (at + terms ≤ length (now bytes)) ⌝ }
     ensures { λ r. ⌜ r ≡ padded (take terms (drop at (now (bytes .entry)))) ⌝ }
 {
@@ -29,7 +29,7 @@ fn mask_of(high: u8, low: u8) -> u32
 }
 
 // The masks of so many classes from a place on, and 0 past them.
-pub fn masks_at(bytes: &[u8], at: usize, classes: usize) -> [u32; 12]
+pub(crate) fn masks_at(bytes: &[u8], at: usize, classes: usize) -> [u32; 12]
     requires { ⌜ (classes ≤ maxTerms) × (at + 2 * classes ≤ length (now bytes)) ⌝ }
     ensures { λ r. ⌜ r ≡ padded (masksIn (take (2 * classes) (drop at (now (bytes .entry))))) ⌝ }
 {

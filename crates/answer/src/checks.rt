@@ -22,7 +22,7 @@ pub enum AnswerCheck {
 }
 
 // Masks are below 2 to the number of sets.
-pub fn mask_bound(sets: u8) -> u64
+pub(crate) fn mask_bound(sets: u8) -> u64
     requires { ⌜ sets ≤ maxSets ⌝ }
     ensures { λ r. ⌜ r ≡ 2 ^ sets ⌝ }
 {
@@ -42,7 +42,7 @@ fn after_class(used: usize, c: usize) -> usize
 }
 
 // The classes of the first class numbers: each is at most one more than the largest before it.
-pub fn count_classes(numbers: [u8; 12], terms: usize) -> ClassCount
+pub(crate) fn count_classes(numbers: [u8; 12], terms: usize) -> ClassCount
     requires { ⌜ terms ≤ maxTerms ⌝ }
     ensures { λ r. ⌜ r ≡ classCount (take terms numbers) ⌝ }
 {
@@ -60,7 +60,7 @@ pub fn count_classes(numbers: [u8; 12], terms: usize) -> ClassCount
 }
 
 // Are the masks of the first classes below the bound.
-pub fn all_below(masks: [u32; 12], classes: usize, bound: u64) -> bool
+pub(crate) fn all_below(masks: [u32; 12], classes: usize, bound: u64) -> bool
     requires { ⌜ classes ≤ maxTerms ⌝ }
     ensures { λ r. ⌜ r ≡ allBelow bound (take classes masks) ⌝ }
 {
@@ -76,7 +76,7 @@ pub fn all_below(masks: [u32; 12], classes: usize, bound: u64) -> bool
 }
 
 // May an answer for so many terms be written: of an impossible one only the verdict is looked at.
-pub fn check_answer(a: Answer, terms: usize, bound: u64) -> AnswerCheck
+pub(crate) fn check_answer(a: Answer, terms: usize, bound: u64) -> AnswerCheck
     requires { ⌜ terms ≤ maxTerms ⌝ }
     ensures { λ r. ⌜ r ≡ answerCheck bound (said terms a) ⌝ }
 {

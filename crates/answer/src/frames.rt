@@ -49,7 +49,7 @@ fn check_head(due: u8, size: usize, tag: u8, length: usize, left: usize) -> Fram
 }
 
 // The frame at a place where a field with this tag is due; `size` is its length if the table leaves that open.
-pub fn frame_at(bytes: &[u8], at: usize, due: u8, size: usize) -> Frame
+pub(crate) fn frame_at(bytes: &[u8], at: usize, due: u8, size: usize) -> Frame
     ensures { λ r. ⌜ r ≡ frameOf due size (drop at (now (bytes .entry))) ⌝ }
 {
     match head_at(bytes, at) {

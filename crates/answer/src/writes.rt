@@ -14,12 +14,12 @@ ghost use mathlib.Core.Path.{_≡_};
 ghost use Prim.Native.Nat.{_*_, _≤_};
 ghost use lib.ListN.{length, take};
 ghost use Rattle.question.specs.Limits.{maxTerms};
-ghost use Rattle.outcome.specs.Over.{over};
+ghost use Rattle.outcome.specs.Over.{over, fittedOver};
 ghost use Rattle.answer.specs.Answers.{cutTo, said};
 ghost use Rattle.answer.specs.Bodies.{masksBody};
 ghost use Rattle.answer.specs.Bytes.{verdictByte, numbersBytes, masksBytes, solutionBytes, modelBytes, fileOf};
 ghost use Rattle.answer.specs.Checks.{classesIn};
-ghost use Rattle.answer.specs.Writes.{fitted, fittedOver, goodWritten, goodOver, written, writtenOver};
+ghost use Rattle.answer.specs.Writes.{fitted, goodWritten, goodOver, written, writtenOver};
 
 pub enum AnswerWritten {
     // How many bytes were written.

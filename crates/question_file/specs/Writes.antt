@@ -9,7 +9,7 @@ use Rattle.question.specs.declared.checks.TableCheck.{TableCheck}
 use Rattle.question.specs.declared.checks.TableCheck.the-variants.{Accepted, Refused as RefusedTable}
 use Rattle.question.specs.Refusals.{refusal, bufferTooShort}
 use Rattle.question.specs.Checks.{checked}
-use Rattle.outcome.specs.Over.{over}
+use Rattle.outcome.specs.Over.{fittedOver}
 use Rattle.question_file.specs.declared.writes.Written.{Written}
 use Rattle.question_file.specs.declared.writes.Written.the-variants.{Bytes, Refused}
 use Rattle.question_file.specs.Bytes.{questionBytes}
@@ -17,10 +17,6 @@ use Rattle.question_file.specs.Bytes.{questionBytes}
 -- the answer to some bytes where there is room for so many: 10 if they are more
 abbrev pub fitted : List ℕ → ℕ → Written
 fitted bytes room = cond (ltb room (length bytes)) (Refused (refusal bufferTooShort 0)) (Bytes (length bytes))
-
--- and the buffer: the bytes over what was there, or what was there
-abbrev pub fittedOver : List ℕ → List ℕ → List ℕ
-fittedOver bytes old = cond (ltb (length old) (length bytes)) old (over bytes old)
 
 -- before it the refusals of the table
 abbrev pub checkedThen : TableCheck → Written → Written

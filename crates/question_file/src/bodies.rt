@@ -16,7 +16,7 @@ pub enum Made {
 }
 
 // The statement of a tag and the first bytes of its body; a kind with fewer names ignores the last ones.
-pub fn statement_of(tag: u8, a: u8, b: u8, c: u8) -> Made
+pub(crate) fn statement_of(tag: u8, a: u8, b: u8, c: u8) -> Made
     ensures { λ r. ⌜ r ≡ statementOf tag a b c ⌝ }
 {
     match tag {
@@ -36,7 +36,7 @@ pub fn statement_of(tag: u8, a: u8, b: u8, c: u8) -> Made
 }
 
 // The names of a statement in the order of its body, with 0 behind the last.
-pub fn name_bytes(s: Statement) -> [u8; 3]
+pub(crate) fn name_bytes(s: Statement) -> [u8; 3]
     ensures { λ r. ⌜ r ≡ padded (bodyOf s) ⌝ }
 {
     match s {
@@ -55,7 +55,7 @@ pub fn name_bytes(s: Statement) -> [u8; 3]
 }
 
 // How long the body of a statement's field is, by the table of tags.
-pub fn body_length(s: Statement) -> usize
+pub(crate) fn body_length(s: Statement) -> usize
     ensures { λ r. ⌜ r ≡ length (bodyOf s) ⌝ }
 {
     match length_of(File::Question, s.tag()) {

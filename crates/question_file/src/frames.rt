@@ -39,7 +39,7 @@ fn check_head(at: usize, tag: u8, length: usize, left: usize) -> Frame
 }
 
 // The frame of the field that begins at a place.
-pub fn frame_at(bytes: &[u8], at: usize) -> Frame
+pub(crate) fn frame_at(bytes: &[u8], at: usize) -> Frame
     ensures { λ r. ⌜ r ≡ frameOf at (drop at (now (bytes .entry))) ⌝ }
 {
     match head_at(bytes, at) {

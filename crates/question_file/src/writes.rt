@@ -14,9 +14,9 @@ ghost use Rattle.question.specs.declared.checks.TableCheck.the-variants.{Accept
 ghost use Rattle.question.specs.Limits.{maxStatements};
 ghost use Rattle.question.specs.Questions.{statements};
 ghost use Rattle.question.specs.Checks.{checked};
-ghost use Rattle.outcome.specs.Over.{over};
+ghost use Rattle.outcome.specs.Over.{over, fittedOver};
 ghost use Rattle.question_file.specs.Bytes.{statementBytes, statementsBytes, questionBytes};
-ghost use Rattle.question_file.specs.Writes.{fitted, fittedOver, written, writtenOver};
+ghost use Rattle.question_file.specs.Writes.{fitted, written, writtenOver};
 
 pub enum Written {
     // How many bytes were written.

@@ -17,7 +17,8 @@ use Rattle.theory.proofs.AnswerLaws.{answer-solution}
 use Rattle.answer.specs.Answers.{said, asAnswer, MaySay}
 use Rattle.answer.specs.Bytes.{fileOf}
 use Rattle.answer.specs.Checks.{isGood}
-use Rattle.answer.specs.Writes.{fitted, fittedOver, goodWritten, goodOver, written, writtenOver}
+use Rattle.outcome.specs.Over.{fittedOver}
+use Rattle.answer.specs.Writes.{fitted, goodWritten, goodOver, written, writtenOver}
 use Rattle.answer.proofs.AnswerLaws.{none-length, some-length}
 use Rattle.answer.proofs.MayLaws.{may-good, may-few, as-said}
 

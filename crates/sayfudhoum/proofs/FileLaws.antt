@@ -18,13 +18,13 @@ use Rattle.question_file.specs.declared.reads.ReadQuestion.{ReadQuestion}
 use Rattle.question_file.specs.Reads.{readQuestion}
 use Rattle.question_file.proofs.RefusalLaws.{refusal-told}
 use Rattle.question_file.proofs.RoundTrips.{read-checked}
-use Rattle.outcome.specs.Over.{over}
+use Rattle.outcome.specs.Over.{over, fittedOver}
 use Rattle.outcome.proofs.OverLaws.{over-length}
 use Rattle.field.proofs.Never.{never}
 use Rattle.theory.specs.Answers.{answer}
 use Rattle.answer.specs.declared.writes.AnswerWritten.the-variants.{Bytes, Refused}
 use Rattle.answer.specs.Bytes.{fileOf}
-use Rattle.answer.specs.Writes.{fitted, fittedOver}
+use Rattle.answer.specs.Writes.{fitted}
 use Rattle.sayfudhoum.specs.Decisions.{undecided, decided}
 use Rattle.sayfudhoum.specs.Files.{answerIn, decidedBy, fileDecided, answeredBy, answered, overBy, answeredOver, reportBytes, responseBy, response, responded, respondedOver}
 use Rattle.sayfudhoum.specs.Numbers.{IsSmall, IsShort}

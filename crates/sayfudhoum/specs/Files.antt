@@ -13,7 +13,8 @@ use Rattle.answer.specs.declared.writes.AnswerWritten.{AnswerWritten}
 use Rattle.answer.specs.declared.writes.AnswerWritten.the-variants.{Refused}
 use Rattle.answer.specs.Answers.{asAnswer}
 use Rattle.answer.specs.Bytes.{endBytes, fileOf}
-use Rattle.answer.specs.Writes.{fitted, fittedOver}
+use Rattle.outcome.specs.Over.{fittedOver}
+use Rattle.answer.specs.Writes.{fitted}
 use Rattle.sayfudhoum.specs.declared.decisions.Decision.{Decision}
 use Rattle.sayfudhoum.specs.Decisions.{undecided, decidedAs}
 

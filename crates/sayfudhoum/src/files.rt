@@ -15,7 +15,8 @@ ghost use Rattle.question.specs.declared.checks.TableCheck.the-variants.{Accept
 ghost use Rattle.question.specs.Checks.{checked};
 ghost use Rattle.theory.specs.Answers.{answer};
 ghost use Rattle.answer.specs.Bytes.{fileOf};
-ghost use Rattle.answer.specs.Writes.{fitted, fittedOver};
+ghost use Rattle.outcome.specs.Over.{fittedOver};
+ghost use Rattle.answer.specs.Writes.{fitted};
 ghost use Rattle.sayfudhoum.specs.Files.{fileDecided, answered, answeredOver, reportBytes, responded, respondedOver};
 
 // The decision of a question file: the refusals of the file, else the answer to its question.
