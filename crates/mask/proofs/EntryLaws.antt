@@ -10,11 +10,10 @@ use lib.Bits.{bitAnd, and-le-l}
 use Rattle.question.specs.Masks.{bit}
 use Rattle.question.proofs.TestLaws.{same-test}
 use Rattle.theory.specs.Rules.{Row, row}
-use Rattle.theory.specs.Sets.{Test}
+use Rattle.theory.specs.Sets.{Test, fits}
 use Rattle.theory.specs.Solutions.{allRows}
-use Rattle.mask.specs.InForce.{meetsInForce}
+use Rattle.mask.specs.Least.{meetsRow}
 use Rattle.mask.specs.Entries.{termRoom, testIn, termsIn, rowsFor, rowsOfEntry}
-use Rattle.mask.specs.Tests.{passesInForce}
 use Rattle.mask.proofs.BitLaws.{both-true, bit-and, bit-both, bit-of-zero, some-bit}
 
 -- the walk over the rows of some terms passes exactly if each of them does
@@ -69,13 +68,13 @@ module _ (class : ℕ) (P : Bool) (t : Test) (f : Row Test → Bool) (f-is : (c 
       from : P ≡ true → allRows f (rowsFor termRoom 0 terms t) ≡ true
       from e = rows-pass f t termRoom 0 terms (λ d lo hi b. f-is d ∙ ap (λ p. not (bit class d) || p) e ∙ always (not (bit class d)))
 
-module _ (class n m e : ℕ) where
+module _ (class m e : ℕ) where
   -- no term of the entry is in the class
-  pub entry-apart : bitAnd (termsIn e) class ≡ 0 → allRows (meetsInForce class n m) (rowsOfEntry e) ≡ true
+  pub entry-apart : bitAnd (termsIn e) class ≡ 0 → allRows (meetsRow class m) (rowsOfEntry e) ≡ true
   unfolding rowsOfEntry
-  entry-apart = apart class (passesInForce class n m (testIn e)) (testIn e) (meetsInForce class n m) (λ c. refl) (termsIn e)
+  entry-apart = apart class (fits m (bit class) (testIn e)) (testIn e) (meetsRow class m) (λ c. refl) (termsIn e)
 
   -- some is: one test is that of all
-  pub entry-meets : bitAnd (termsIn e) class ≢ 0 → allRows (meetsInForce class n m) (rowsOfEntry e) ≡ passesInForce class n m (testIn e)
+  pub entry-meets : bitAnd (termsIn e) class ≢ 0 → allRows (meetsRow class m) (rowsOfEntry e) ≡ fits m (bit class) (testIn e)
   unfolding rowsOfEntry
-  entry-meets = meet class (passesInForce class n m (testIn e)) (testIn e) (meetsInForce class n m) (λ c. refl) (termsIn e) (omega arith)
+  entry-meets = meet class (fits m (bit class) (testIn e)) (testIn e) (meetsRow class m) (λ c. refl) (termsIn e) (omega arith)

@@ -1,4 +1,4 @@
--- What the smallest mask under the rows in force is: it meets them all, and no smaller one does. Nothing else fits that.
+-- What the smallest mask is: it meets all rows, and no smaller one does. Nothing else fits that.
 use Prim.Native.Nat.{ℕ, _<_}
 use mathlib.Core.Path.{_≡_, refl, sym, ap, subst, _∙_}
 use mathlib.Core.Bool.{Bool, true, false, cond, true≢false}
@@ -11,22 +11,22 @@ use Rattle.theory.specs.Sets.{Test}
 use Rattle.theory.specs.Searches.{firstFrom}
 use Rattle.theory.specs.Solutions.{allRows}
 use Rattle.theory.proofs.SearchLaws.{FirstNumberIs, firstFrom-is}
-use Rattle.mask.specs.InForce.{meetsInForce, leastMask}
+use Rattle.mask.specs.Least.{meetsRow, leastMask}
 
--- does the mask m meet every row in force
-abbrev pub meetsAll : List (Row Test) → ℕ → ℕ → ℕ → Bool
-meetsAll rows class n m = allRows (meetsInForce class n m) rows
+-- does the mask m meet every row
+abbrev pub meetsAll : List (Row Test) → ℕ → ℕ → Bool
+meetsAll rows class m = allRows (meetsRow class m) rows
 
-module _ (bound : ℕ) (rows : List (Row Test)) (class n : ℕ) where
+module _ (bound : ℕ) (rows : List (Row Test)) (class : ℕ) where
   abbrev meets : ℕ → Bool
-  meets = meetsAll rows class n
+  meets = meetsAll rows class
 
   -- the smallest mask below the bound that does, or none does
   abbrev pub LeastIs : Option ℕ → Type 0
   LeastIs none = (m : ℕ) → m < bound → meets m ≡ false
   LeastIs (some m) = (m < bound) × (meets m ≡ true) × ((w : ℕ) → w < m → meets w ≡ false)
 
-  pub leastMask-is : LeastIs (leastMask bound rows class n)
+  pub leastMask-is : LeastIs (leastMask bound rows class)
   unfolding leastMask
   leastMask-is = go (firstFrom bound 0 try) (firstFrom-is bound 0 try)
     where
@@ -60,5 +60,5 @@ module _ (bound : ℕ) (rows : List (Row Test)) (class n : ℕ) where
       go (no ge) (no le) = ap some (omega arith)
 
   -- what is the smallest is found
-  pub leastMask-one : (o : Option ℕ) → LeastIs o → leastMask bound rows class n ≡ o
-  leastMask-one o h = one-least (leastMask bound rows class n) o leastMask-is h
+  pub leastMask-one : (o : Option ℕ) → LeastIs o → leastMask bound rows class ≡ o
+  leastMask-one o h = one-least (leastMask bound rows class) o leastMask-is h

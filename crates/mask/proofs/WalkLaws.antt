@@ -2,7 +2,7 @@
 use Prim.Native.Nat.{ℕ, zero, suc, _+_, _≤_, _<_}
 use mathlib.Core.Path.{_≡_, refl, sym, ap, _∙_}
 use mathlib.Core.Logic.{_≢_}
-use mathlib.Core.Bool.{Bool, true, false, not, _&&_, _||_, true≢false}
+use mathlib.Core.Bool.{Bool, true, false, _&&_, true≢false}
 use mathlib.Core.List.{List, [], _∷_}
 use native.Mathlib.Omega.{arith}
 use native.Mathlib.Numerals.{add-one}
@@ -12,10 +12,10 @@ use lib.ListN.{length, getD, drop, drop-of-length-le}
 use lib.Seq.{drop-cons}
 use Rattle.question.specs.Masks.{bit}
 use Rattle.theory.specs.Rules.{Row}
-use Rattle.theory.specs.Sets.{Test, fits}
+use Rattle.theory.specs.Sets.{Test}
 use Rattle.theory.specs.Solutions.{allRows}
 use Rattle.theory.proofs.RuleLaws.{all-append}
-use Rattle.mask.specs.InForce.{otherPlaced, meetsInForce}
+use Rattle.mask.specs.Least.{meetsRow}
 use Rattle.mask.specs.Entries.{testIn, termsIn, rowsOfEntry, rowsOfEntries}
 use Rattle.mask.specs.Reasons.{Agrees}
 use Rattle.mask.specs.Blames.{blamed}
@@ -34,31 +34,27 @@ one-fails f (r ∷ rs) (suc i) h e = all-append f (rowsOfEntry r) (rowsOfEntries
     go true p = p
     go false p = refl
 
-module _ (class n : ℕ) where
+module _ (class : ℕ) where
   -- a mask that agrees on the blamed bits with one that fails the rows of an entry fails them too
-  entry-decided : (m w e : ℕ) → allRows (meetsInForce class n m) (rowsOfEntry e) ≡ false → Agrees 2 0 (bit (blamed m (testIn e))) m w → allRows (meetsInForce class n w) (rowsOfEntry e) ≡ false
+  entry-decided : (m w e : ℕ) → allRows (meetsRow class m) (rowsOfEntry e) ≡ false → Agrees 2 0 (bit (blamed m (testIn e))) m w → allRows (meetsRow class w) (rowsOfEntry e) ≡ false
   entry-decided m w e h a = go (ℕ-discrete (bitAnd (termsIn e) class) 0)
     where
-      test-decided : (later : Bool) → (later || fits m (bit class) (testIn e)) ≡ false → (later || fits w (bit class) (testIn e)) ≡ false
-      test-decided true p = absurd (true≢false p)
-      test-decided false p = blamed-decides m (testIn e) (bit class) p w a
-
-      go : Dec (bitAnd (termsIn e) class ≡ 0) → allRows (meetsInForce class n w) (rowsOfEntry e) ≡ false
-      go (yes z) = absurd (true≢false (sym (entry-apart class n m e z) ∙ h))
-      go (no ne) = entry-meets class n w e ne ∙ test-decided (not (otherPlaced n (testIn e))) (sym (entry-meets class n m e ne) ∙ h)
+      go : Dec (bitAnd (termsIn e) class ≡ 0) → allRows (meetsRow class w) (rowsOfEntry e) ≡ false
+      go (yes z) = absurd (true≢false (sym (entry-apart class m e z) ∙ h))
+      go (no ne) = entry-meets class w e ne ∙ blamed-decides m (testIn e) (bit class) (sym (entry-meets class m e ne) ∙ h) w a
 
   module _ (entries : List ℕ) where
     -- the walk from the index i on
     abbrev pub meetsFrom : ℕ → ℕ → Bool
-    meetsFrom m i = allRows (meetsInForce class n m) (rowsOfEntries (drop i entries))
+    meetsFrom m i = allRows (meetsRow class m) (rowsOfEntries (drop i entries))
 
-    pub walk-turn : (m i : ℕ) → i < length entries → meetsFrom m i ≡ (allRows (meetsInForce class n m) (rowsOfEntry (getD entries i 0)) && meetsFrom m (i + 1))
-    walk-turn m i h = rw (drop-cons entries i 0 h, add-one) (all-append (meetsInForce class n m) (rowsOfEntry (getD entries i 0)) (rowsOfEntries (drop (suc i) entries)))
+    pub walk-turn : (m i : ℕ) → i < length entries → meetsFrom m i ≡ (allRows (meetsRow class m) (rowsOfEntry (getD entries i 0)) && meetsFrom m (i + 1))
+    walk-turn m i h = rw (drop-cons entries i 0 h, add-one) (all-append (meetsRow class m) (rowsOfEntry (getD entries i 0)) (rowsOfEntries (drop (suc i) entries)))
 
     pub walk-end : (m i : ℕ) → length entries ≤ i → meetsFrom m i ≡ true
     walk-end m i h = rw (drop-of-length-le entries h)
 
     -- the entry at i decides
-    pub walk-decided : (m i : ℕ) → i < length entries → allRows (meetsInForce class n m) (rowsOfEntry (getD entries i 0)) ≡ false →
-        IsDecided (meetsAll (rowsOfEntries entries) class n) (blamed m (testIn (getD entries i 0))) m
-    walk-decided m i h e w a = one-fails (meetsInForce class n w) entries i h (entry-decided m w (getD entries i 0) e a)
+    pub walk-decided : (m i : ℕ) → i < length entries → allRows (meetsRow class m) (rowsOfEntry (getD entries i 0)) ≡ false →
+        IsDecided (meetsAll (rowsOfEntries entries) class) (blamed m (testIn (getD entries i 0))) m
+    walk-decided m i h e w a = one-fails (meetsRow class w) entries i h (entry-decided m w (getD entries i 0) e a)

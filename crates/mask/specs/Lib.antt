@@ -1,5 +1,5 @@
--- The definitions that the contracts cite: rows in force and entries, then the search with reasons, first for numbers to any base.
-pub mod InForce
+-- The definitions that the contracts cite: the rows of a class and entries, then the search with reasons, first for numbers to any base.
+pub mod Least
 pub mod Entries
 pub mod Tests
 pub mod Reasons

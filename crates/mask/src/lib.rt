@@ -1,4 +1,4 @@
-// The smallest mask of a class of terms, under the rows in force while only the first terms are placed.
+// The smallest mask of a class of terms.
 mod bits;
 mod blames;
 mod entries;

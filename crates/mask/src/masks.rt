@@ -6,7 +6,7 @@ use crate::trials::Trial;
 use crate::trials::next_mask;
 ghost use mathlib.Core.Path.{_≡_};
 ghost use Prim.Native.Nat.{_^_, min};
-ghost use Rattle.mask.specs.InForce.{leastMask};
+ghost use Rattle.mask.specs.Least.{leastMask};
 ghost use Rattle.mask.specs.Entries.{rowsOfEntries};
 ghost use Rattle.mask.specs.Masks.{smallestOf};
 
@@ -22,10 +22,10 @@ fn width(sets: u8) -> u8
     if 32 < sets { 32 } else { sets }
 }
 
-// The smallest mask of the class (a set of terms) under the rows in force, where the first `placed` terms are placed; a mask has at most 32 bits.
+// The smallest mask of the class (a set of terms) that meets every row of the entries; a mask has at most 32 bits.
 // Masks are tried upward. The first entry that a mask fails says which bits are to blame, and masks that would fail for the same reason are left out.
-pub fn smallest_mask(entries: &[u64], class: u32, placed: u32, sets: u8) -> Smallest
-    ensures { λ r. ⌜ r ≡ smallestOf (leastMask (2 ^ min sets 32) (rowsOfEntries (now (entries .entry))) class placed) ⌝ }
+pub fn smallest_mask(entries: &[u64], class: u32, sets: u8) -> Smallest
+    ensures { λ r. ⌜ r ≡ smallestOf (leastMask (2 ^ min sets 32) (rowsOfEntries (now (entries .entry))) class) ⌝ }
 {
     let bits = width(sets);
     let mut m: u32 = 0;
@@ -37,7 +37,7 @@ pub fn smallest_mask(entries: &[u64], class: u32, placed: u32, sets: u8) -> Smal
                 break 'masks Smallest::At(m);
             }
             let entry = entries[i];
-            if !meets(entry, class, placed, m) {
+            if !meets(entry, class, m) {
                 break 'entries blame(row_in(entry), m);
             }
             i += 1;

@@ -1,20 +1,22 @@
-// Does a mask meet the rows of an entry, as far as they are in force.
+// Does a mask meet the rows of an entry.
 use crate::bits::bit;
 use crate::entries::row_in;
 use crate::entries::terms_in;
 use row::RowParts;
 use row::unpack;
 ghost use mathlib.Core.Path.{_≡_};
+ghost use Rattle.question.specs.Masks.{bit as hasBit};
+ghost use Rattle.theory.specs.Sets.{fits};
 ghost use Rattle.theory.specs.Solutions.{allRows};
 ghost use Rattle.row.specs.Rows.{rowOfParts};
-ghost use Rattle.mask.specs.InForce.{meetsInForce};
+ghost use Rattle.mask.specs.Least.{meetsRow};
 ghost use Rattle.mask.specs.Entries.{rowsOfEntry};
-ghost use Rattle.mask.specs.Tests.{passesInForce, PlacesAreBits};
+ghost use Rattle.mask.specs.Tests.{PlacesAreBits};
 
-// Does a class with the mask m pass the row's test. One that names another term, which is not among the first `placed`, is passed over.
-fn passes(p: RowParts, class: u32, placed: u32, m: u32) -> bool
+// Does a class with the mask m pass the row's test.
+fn passes(p: RowParts, class: u32, m: u32) -> bool
     requires { ⌜ PlacesAreBits p ⌝ }
-    ensures { λ r. ⌜ r ≡ passesInForce class placed m (rowOfParts p .test) ⌝ }
+    ensures { λ r. ⌜ r ≡ fits m (hasBit class) (rowOfParts p .test) ⌝ }
 {
     let kind = p.kind;
     let x = p.first;
@@ -26,26 +28,26 @@ fn passes(p: RowParts, class: u32, placed: u32, m: u32) -> bool
     let same_x = bit(class, x);
     let same_y = bit(class, y);
     match kind {
-        0 => !((x as u32) < placed) | same_x,
-        1 => !((x as u32) < placed) | !same_x,
+        0 => same_x,
+        1 => !same_x,
         2 => in_x,
         3 => !in_x,
         4 => in_x == in_y,
         5 => in_x == !in_y,
-        6 => !((y as u32) < placed) | (in_x == same_y),
+        6 => in_x == same_y,
         7 => in_x == in_y | in_z,
         8 => in_x == in_y & in_z,
         9 => in_x == in_y & !in_z,
-        _ => !((x as u32) < placed) | same_x,
+        _ => same_x,
     }
 }
 
 // Does the mask m of a class meet the rows of the entry. If none of their terms is in the class, they are passed over; else one test is that of all.
-pub(crate) fn meets(entry: u64, class: u32, placed: u32, m: u32) -> bool
-    ensures { λ r. ⌜ r ≡ allRows (meetsInForce class placed m) (rowsOfEntry entry) ⌝ }
+pub(crate) fn meets(entry: u64, class: u32, m: u32) -> bool
+    ensures { λ r. ⌜ r ≡ allRows (meetsRow class m) (rowsOfEntry entry) ⌝ }
 {
     if terms_in(entry) & class == 0 {
         return true;
     }
-    passes(unpack(row_in(entry)), class, placed, m)
+    passes(unpack(row_in(entry)), class, m)
 }
