@@ -1,7 +1,7 @@
--- The laws, from sets of terms to cuts.
+-- The laws, from sets of terms to what is found.
 pub mod MembersLaws
-pub mod InForceLaws
-pub mod CutLaws
-pub mod FittingLaws
+pub mod OtherLaws
+pub mod StandingLaws
+pub mod TriedLaws
 pub mod WholeLaws
 pub mod BehindLaws

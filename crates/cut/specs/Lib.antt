@@ -2,4 +2,4 @@
 pub mod Members
 pub mod Others
 pub mod Behind
-pub mod Fittings
+pub mod Standings

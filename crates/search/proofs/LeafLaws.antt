@@ -15,12 +15,8 @@ use Rattle.theory.specs.Solutions.{withMasks, allRows}
 use Rattle.theory.specs.FirstModels.{smallestMask, modelOf}
 use Rattle.theory.specs.Sets.{fits, rowDeclared}
 use Rattle.theory.proofs.SearchLaws.{EachIs, eachFrom-is}
-use Rattle.theory.proofs.RowListLaws.{declared-below}
-use Rattle.theory.proofs.RuleLaws.{TermsBelow}
 use Rattle.mask.specs.Entries.{rowsOfEntries}
 use Rattle.cut.specs.Members.{members}
-use Rattle.cut.specs.Others.{othersPlaced}
-use Rattle.cut.proofs.InForceLaws.{declared-others}
 use Rattle.cut.proofs.WholeLaws.{mask-whole}
 use Rattle.search.specs.declared.answers.Verdict.the-variants.{Possible, Impossible}
 use Rattle.search.specs.declared.answers.SearchAnswer.{SearchAnswer}
@@ -62,25 +58,23 @@ module _ (entries : List ℕ) (sets : ℕ) (arrangement : List ℕ) (terms used 
   abbrev l : List ℕ
   l = take terms arrangement
 
-  smallest-is : (k : ℕ) → smallest entries sets l k ≡ maskOfClass entries sets (members l k) terms
-  smallest-is k = mask-whole l k (2 ^ sets) (rowsOfEntries entries) (subst (λ n. TermsBelow n (rowsOfEntries entries)) (sym (placed-length here)) (declared-below terms sets (rowsOfEntries entries) declared))
-      (subst (λ n. T (othersPlaced n (rowsOfEntries entries))) (sym (placed-length here)) (declared-others terms sets (rowsOfEntries entries) declared))
-      ∙ ap (maskOfClass entries sets (members l k)) (placed-length here)
+  smallest-is : (k : ℕ) → smallest entries sets l k ≡ maskOfClass entries sets (members l k)
+  smallest-is k = mask-whole l k sets (2 ^ sets) (rowsOfEntries entries) (subst (λ n. T (allRows (rowDeclared n sets) (rowsOfEntries entries))) (sym (placed-length here)) declared)
 
   module _ (k class : ℕ) (is : class ≡ members l k) where
     -- a class has none
-    pub leaf-none : (r : SearchAnswer) → k < used → maskOfClass entries sets class terms ≡ none → r ≡ withoutModel Impossible → r ≡ answerOf (modelOf fits (2 ^ sets) (rowsOfEntries entries) l)
+    pub leaf-none : (r : SearchAnswer) → k < used → maskOfClass entries sets class ≡ none → r ≡ withoutModel Impossible → r ≡ answerOf (modelOf fits (2 ^ sets) (rowsOfEntries entries) l)
     unfolding modelOf answerOf
-    leaf-none r lt e i = i ∙ ap (λ o. answerOf (Option·map (withMasks l) o)) (sym (each-none (classes l) (smallest entries sets l) k (omega (arith, here .counted)) (smallest-is k ∙ ap (λ c. maskOfClass entries sets c terms) (sym is) ∙ e)))
+    leaf-none r lt e i = i ∙ ap (λ o. answerOf (Option·map (withMasks l) o)) (sym (each-none (classes l) (smallest entries sets l) k (omega (arith, here .counted)) (smallest-is k ∙ ap (maskOfClass entries sets) (sym is) ∙ e)))
 
     -- one mask more
-    pub leaf-more : (masks : List ℕ) (m : ℕ) → k < length masks → maskOfClass entries sets class terms ≡ some m → MasksTo entries sets l k masks → MasksTo entries sets l (k + 1) (set masks k m)
+    pub leaf-more : (masks : List ℕ) (m : ℕ) → k < length masks → maskOfClass entries sets class ≡ some m → MasksTo entries sets l k masks → MasksTo entries sets l (k + 1) (set masks k m)
     leaf-more masks m lt e before i h = go (decLt i k)
       where
         go : Dec (i < k) → smallest entries sets l i ≡ some (getD (set masks k m) i 0)
         go (yes p) = before i p ∙ ap (λ (x : ℕ). some x) (sym (getD-set-other masks k i m 0 (λ q. omega arith)))
         go (no p) = let q : i ≡ k = omega arith in
-            ap (smallest entries sets l) q ∙ smallest-is k ∙ ap (λ c. maskOfClass entries sets c terms) (sym is) ∙ e ∙ ap (λ (x : ℕ). some x) (sym (ap (λ j. getD (set masks k m) j 0) q ∙ getD-set-same masks k m 0 lt))
+            ap (smallest entries sets l) q ∙ smallest-is k ∙ ap (maskOfClass entries sets) (sym is) ∙ e ∙ ap (λ (x : ℕ). some x) (sym (ap (λ j. getD (set masks k m) j 0) q ∙ getD-set-same masks k m 0 lt))
 
   -- every class has one
   pub leaf-all : (masks : List ℕ) (r : SearchAnswer) → length masks ≡ maxTerms → RestZero used masks → MasksTo entries sets l used masks →

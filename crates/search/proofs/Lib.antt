@@ -8,8 +8,6 @@ pub mod MemoLaws
 pub mod SmallestLaws
 pub mod StepLaws
 pub mod LeafLaws
-pub mod LastClassLaws
-pub mod SettledLaws
 pub mod GroupLaws
 pub mod FitLaws
 pub mod OtherLaws

@@ -1,38 +1,41 @@
--- A walk over the entries that keeps a number of terms among which the other terms of all rows passed are.
+-- A walk over the entries that keeps a set which has the other terms that the rows passed ask for.
 use Prim.Native.Nat.{ℕ, suc, _+_, _≤_, _<_}
 use mathlib.Core.Path.{_≡_}
 use mathlib.Core.Bool.{Bool, true}
 use mathlib.Core.List.{List}
 use native.Mathlib.Omega.{arith}
 use native.Mathlib.Numerals.{add-one}
+use lib.Bits.{bitOr}
 use lib.Dec.{T}
 use lib.ListN.{length, getD, drop, drop-of-length-le}
 use lib.Seq.{drop-cons}
-use Rattle.question.proofs.TestLaws.{true-T}
+use Rattle.question.specs.Masks.{bit}
+use Rattle.question.proofs.TestLaws.{T-true, true-T}
 use Rattle.theory.specs.Rules.{Row}
 use Rattle.theory.specs.Sets.{Test}
 use Rattle.theory.specs.Solutions.{allRows}
 use Rattle.theory.proofs.RuleLaws.{all-append}
-use Rattle.mask.specs.InForce.{otherPlaced}
 use Rattle.mask.specs.Entries.{testIn, rowsOfEntry, rowsOfEntries}
+use Rattle.mask.proofs.BitLaws.{or-left, or-right}
 use Rattle.mask.proofs.EntryLaws.{entry-pass}
-use Rattle.cut.specs.Others.{othersPlaced}
-use Rattle.cut.proofs.InForceLaws.{placed-more}
+use Rattle.cut.specs.Others.{otherKnown, othersKnown}
+use Rattle.cut.proofs.OtherLaws.{known-more}
 
 module _ (entries : List ℕ) where
-  -- n is enough for the rows before i: a number from n on that is enough for the others is enough for all
+  -- the set is enough for the rows before i: where its terms are known, and what the other rows ask for, all is
   abbrev pub Enough : ℕ → ℕ → Type 0
-  Enough n i = (m : ℕ) → n ≤ m → T (othersPlaced m (rowsOfEntries (drop i entries))) → T (othersPlaced m (rowsOfEntries entries))
+  Enough others i = (known : ℕ → Bool) → ((d : ℕ) → T (bit others d) → T (known d)) → T (othersKnown known (rowsOfEntries (drop i entries))) → T (othersKnown known (rowsOfEntries entries))
 
   pub enough-start : Enough 0 0
-  enough-start m le h = h
+  enough-start known sub h = h
 
-  pub enough-turn : (n i one more : ℕ) → i < length entries → T (otherPlaced one (testIn (getD entries i 0))) → n ≤ more → one ≤ more → Enough n i → Enough more (i + 1)
-  enough-turn n i one more inside this le one-le before m high h =
+  pub enough-turn : (others i one : ℕ) → i < length entries → T (otherKnown (bit one) (testIn (getD entries i 0))) → Enough others i → Enough (bitOr others one) (i + 1)
+  enough-turn others i one inside this before known sub h =
       let e = getD entries i 0 in
-      let f : Row Test → Bool = λ r. otherPlaced m (r .test) in
-      let these : allRows f (rowsOfEntry e) ≡ true = entry-pass f e (λ c. true-T (otherPlaced m (testIn e)) (placed-more one m (omega arith) (testIn e) this)) in
-      before m (omega arith) (rw (drop-cons entries i 0 inside, all-append f (rowsOfEntry e) (rowsOfEntries (drop (suc i) entries)), these) (rw add-one at h))
+      let f : Row Test → Bool = λ r. otherKnown known (r .test) in
+      let in-one : (d : ℕ) → T (bit one d) → T (known d) = λ d b. sub d (T-true (or-right others one d (true-T (bit one d) b))) in
+      let these : allRows f (rowsOfEntry e) ≡ true = entry-pass f e (λ c. true-T (otherKnown known (testIn e)) (known-more (bit one) known in-one (testIn e) this)) in
+      before known (λ d b. sub d (T-true (or-left others one d (true-T (bit others d) b)))) (rw (drop-cons entries i 0 inside, all-append f (rowsOfEntry e) (rowsOfEntries (drop (suc i) entries)), these) (rw add-one at h))
 
-  pub enough-end : (n i : ℕ) → length entries ≤ i → Enough n i → T (othersPlaced n (rowsOfEntries entries))
-  enough-end n i past before = before n (omega arith) (rw (drop-of-length-le entries {i = i} past) tt)
+  pub enough-end : (others i : ℕ) → length entries ≤ i → Enough others i → T (othersKnown (bit others) (rowsOfEntries entries))
+  enough-end others i past before = before (bit others) (λ d b. b) (rw (drop-of-length-le entries {i = i} past) tt)

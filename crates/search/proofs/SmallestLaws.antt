@@ -8,7 +8,7 @@ use Rattle.question.specs.Limits.{maxSets}
 use Rattle.mask.specs.Entries.{rowsOfEntries}
 use Rattle.mask.specs.declared.masks.Smallest.{Smallest}
 use Rattle.mask.specs.declared.masks.Smallest.the-variants.{At, Nothing}
-use Rattle.mask.specs.InForce.{leastMask}
+use Rattle.mask.specs.Least.{leastMask}
 use Rattle.mask.specs.Masks.{smallestOf}
 use Rattle.search.specs.Memos.{maskOfClass}
 
@@ -20,12 +20,12 @@ is-none : (o : Option ℕ) → Nothing ≡ smallestOf o → o ≡ none
 is-none none e = refl
 is-none (some n) e = let z : _≡_ {A = ℕ} 0 1 = cc in absurd (omega arith)
 
-module _ (entries : List ℕ) (sets class n : ℕ) (few : sets ≤ maxSets) (s : Smallest) (found : s ≡ smallestOf (leastMask (2 ^ min sets 32) (rowsOfEntries entries) class n)) where
-  as-wide : s ≡ smallestOf (maskOfClass entries sets class n)
-  as-wide = let e : min sets 32 ≡ sets = omega arith in found ∙ ap (λ w. smallestOf (leastMask (2 ^ w) (rowsOfEntries entries) class n)) e
+module _ (entries : List ℕ) (sets class : ℕ) (few : sets ≤ maxSets) (s : Smallest) (found : s ≡ smallestOf (leastMask (2 ^ min sets 32) (rowsOfEntries entries) class)) where
+  as-wide : s ≡ smallestOf (maskOfClass entries sets class)
+  as-wide = let e : min sets 32 ≡ sets = omega arith in found ∙ ap (λ w. smallestOf (leastMask (2 ^ w) (rowsOfEntries entries) class)) e
 
-  pub mask-is : (m : ℕ) → s ≡ At m → maskOfClass entries sets class n ≡ some m
-  mask-is m e = is-some (maskOfClass entries sets class n) m (sym e ∙ as-wide)
+  pub mask-is : (m : ℕ) → s ≡ At m → maskOfClass entries sets class ≡ some m
+  mask-is m e = is-some (maskOfClass entries sets class) m (sym e ∙ as-wide)
 
-  pub mask-lacks : s ≡ Nothing → maskOfClass entries sets class n ≡ none
-  mask-lacks e = is-none (maskOfClass entries sets class n) (sym e ∙ as-wide)
+  pub mask-lacks : s ≡ Nothing → maskOfClass entries sets class ≡ none
+  mask-lacks e = is-none (maskOfClass entries sets class) (sym e ∙ as-wide)

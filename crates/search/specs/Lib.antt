@@ -6,3 +6,4 @@ pub mod Entries
 pub mod Placings
 pub mod Memos
 pub mod Steps
+pub mod Fittings

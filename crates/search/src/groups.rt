@@ -1,27 +1,48 @@
-// Sets of terms: one term's, and those of the classes that stand.
+// Sets of terms: one term's, and those that stand for classes.
 ghost use mathlib.Core.Path.{_≡_};
-ghost use Prim.Native.Nat.{ℕ, _+_, _^_, _≤_, _<_};
+ghost use Prim.Native.Nat.{ℕ, _^_, _≤_, _<_};
+ghost use lib.Bits.{bitOr};
 ghost use lib.ListN.{getD, set};
 ghost use Rattle.question.specs.Limits.{maxTerms};
+ghost use Rattle.question.specs.Masks.{bit};
 ghost use Rattle.search.specs.Placings.{GroupsOf};
+
+// Is the term in the set.
+pub(crate) fn has_term(set: u32, term: usize) -> bool
+    requires { ⌜ term < 32 ⌝ }
+    ensures { λ r. ⌜ r ≡ bit set term ⌝ }
+{
+    (set >> (term as u32)) % 2 == 1
+}
 
 // The set of one term.
 pub(crate) fn term_alone(term: usize) -> u32
-    requires { ⌜ term < maxTerms ⌝ }
+    requires { ⌜ term < 32 ⌝ }
     ensures { λ r. ⌜ r ≡ 2 ^ term ⌝ }
 {
     1 << (term as u32)
 }
 
-// The sets with a later term in the class.
+// The sets with a term in that of the class.
 pub(crate) fn with_term(groups: [u32; 12], class: u8, term: usize) -> [u32; 12]
-    requires { ⌜ (class < maxTerms) × (term < maxTerms) × (getD groups class 0 < 2 ^ term) ⌝ }
-    ensures { λ r. ⌜ r ≡ set groups class (getD groups class 0 + 2 ^ term) ⌝ }
+    requires { ⌜ (class < maxTerms) × (term < maxTerms) ⌝ }
+    ensures { λ r. ⌜ r ≡ set groups class (bitOr (getD groups class 0) (2 ^ term)) ⌝ }
 {
     let k = class as usize;
     let own = term_alone(term);
     let mut next = groups;
-    next[k] = groups[k] + own;
+    next[k] = groups[k] | own;
+    next
+}
+
+// The sets with a new one, of one term.
+pub(crate) fn with_set(groups: [u32; 12], class: u8, term: usize) -> [u32; 12]
+    requires { ⌜ (class < maxTerms) × (term < maxTerms) ⌝ }
+    ensures { λ r. ⌜ r ≡ set groups class (2 ^ term) ⌝ }
+{
+    let own = term_alone(term);
+    let mut next = groups;
+    next[class as usize] = own;
     next
 }
 

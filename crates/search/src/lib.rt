@@ -1,6 +1,5 @@
 // The search: rows that are handed in are checked, and then their first model is found, or that there is none.
 mod answers;
-mod cuts;
 mod entries;
 mod fittings;
 mod groups;

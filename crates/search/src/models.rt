@@ -36,7 +36,7 @@ pub(crate) fn model(
     let mut k: usize = 0;
     while k < count {
         let class = groups[k];
-        let smallest = smallest_mask(entries, class, terms as u32, sets);
+        let smallest = smallest_mask(entries, class, sets);
         let Smallest::At(m) = smallest else {
             return without_model(Verdict::Impossible);
         };

@@ -1,22 +1,23 @@
-// The other terms that rows name: from when on they are all placed.
+// The other terms that rows ask for.
+use crate::groups::term_alone;
 use row::unpack;
 ghost use lib.Dec.{T};
+ghost use Rattle.question.specs.Masks.{bit};
 ghost use Rattle.row.specs.Rows.{rowOf};
 ghost use Rattle.mask.specs.Entries.{rowsOfEntries};
-ghost use Rattle.mask.specs.InForce.{otherPlaced};
-ghost use Rattle.cut.specs.Others.{othersPlaced};
+ghost use Rattle.cut.specs.Others.{otherKnown, othersKnown};
 
-// So many of the first terms that the other term of the row, if it names one, is among them. A kind above 9 is read as kind 0.
-fn other_within(row: u32) -> usize
-    ensures { λ r. ⌜ T (otherPlaced r (rowOf row .test)) ⌝ }
+// A set with the term that the row asks for, if it asks for one. A kind above 9 is read as kind 0.
+fn other_asked(row: u32) -> u32
+    ensures { λ r. ⌜ T (otherKnown (bit r) (rowOf row .test)) ⌝ }
 {
     let p = unpack(row);
     let kind = p.kind;
-    let first = p.first as usize + 1;
-    let second = p.second as usize + 1;
+    let first = term_alone(p.first as usize);
+    let second = term_alone(p.second as usize);
     match kind {
         0 => first,
-        1 => first,
+        1 => 0,
         2 => 0,
         3 => 0,
         4 => 0,
@@ -29,19 +30,17 @@ fn other_within(row: u32) -> usize
     }
 }
 
-// So many that the other term of each row is.
-pub(crate) fn others_within(entries: &[u64]) -> usize
-    ensures { λ r. ⌜ T (othersPlaced r (rowsOfEntries (now (entries .entry)))) ⌝ }
+// A set with those of all rows.
+pub(crate) fn others_asked(entries: &[u64]) -> u32
+    ensures { λ r. ⌜ T (othersKnown (bit r) (rowsOfEntries (now (entries .entry)))) ⌝ }
 {
-    let mut n: usize = 0;
+    let mut others: u32 = 0;
     let mut i: usize = 0;
     while i < entries.len() {
         let row = (entries[i] % 4294967296) as u32;
-        let one = other_within(row);
-        if n < one {
-            n = one;
-        }
+        let one = other_asked(row);
+        others = others | one;
         i += 1;
     }
-    n
+    others
 }

@@ -3,7 +3,7 @@ use crate::answers::SearchAnswer;
 use crate::answers::Verdict;
 use crate::answers::is_possible;
 use crate::answers::without_model;
-use crate::cuts::hopeless;
+use crate::fittings::all_fit;
 use crate::groups::with_term;
 use crate::models::model;
 ghost use mathlib.Core.Path.{_≡_};
@@ -13,11 +13,11 @@ ghost use Rattle.question.specs.Limits.{maxTerms};
 ghost use Rattle.theory.specs.Solutions.{allRows};
 ghost use Rattle.theory.specs.Sets.{rowDeclared};
 ghost use Rattle.mask.specs.Entries.{rowsOfEntries};
-ghost use Rattle.cut.specs.Others.{othersPlaced};
 ghost use Rattle.search.specs.Answers.{answerOf};
 ghost use Rattle.search.specs.Placings.{found};
 ghost use Rattle.search.specs.Memos.{Memo};
 ghost use Rattle.search.specs.Steps.{Standing};
+ghost use Rattle.search.specs.Fittings.{OthersAre};
 
 // How many classes stand after a term of class c, where `used` stood before.
 fn classes_with(used: u8, c: u8) -> u8
@@ -27,7 +27,7 @@ fn classes_with(used: u8, c: u8) -> u8
     if used < c + 1 { c + 1 } else { used }
 }
 
-// `left` terms are still to be placed, the first `placed` stand in `used` classes with these groups of terms, and `others` is enough for the other terms of all rows.
+// `left` terms are still to be placed, the first `placed` stand in `used` classes with these groups of terms, and `others` has the other terms that rows ask for.
 pub(crate) fn place(
     entries: &[u64],
     memo: &mut [u8],
@@ -36,25 +36,25 @@ pub(crate) fn place(
     placed: usize,
     left: usize,
     used: u8,
-    others: usize,
+    others: u32,
     sets: u8,
 ) -> SearchAnswer
     requires { ⌜ Standing (now entries) sets (now memo) arrangement groups placed used ⌝ }
     requires { ⌜ placed + left ≤ maxTerms ⌝ }
     requires { ⌜ T (allRows (rowDeclared (placed + left) sets) (rowsOfEntries (now entries))) ⌝ }
-    requires { ⌜ T (othersPlaced others (rowsOfEntries (now entries))) ⌝ }
+    requires { ⌜ OthersAre (now entries) others (placed + left) ⌝ }
     ensures { λ r. ⌜ r ≡ answerOf (found (now (entries .entry)) sets arrangement placed left) ⌝ }
     ensures { λ r. ⌜ Memo (now (entries .entry)) sets (now (memo .exit)) ⌝ }
 {
-    if hopeless(
+    if !all_fit(
         entries,
         memo,
-        arrangement,
+        others,
         groups,
+        used,
+        placed,
         placed,
         left,
-        used,
-        others,
         sets,
     ) {
         return without_model(Verdict::Impossible);

@@ -6,7 +6,7 @@ use crate::answers::without_model;
 use crate::entries::gather;
 use crate::groups::groups_of;
 use crate::models::model;
-use crate::others::others_within;
+use crate::others::others_asked;
 use crate::placings::place;
 use crate::renamings::PLAIN;
 use crate::renamings::back_from;
@@ -40,8 +40,8 @@ fn search_entries(entries: &[u64], terms: usize, sets: u8) -> SearchAnswer
 {
     let arrangement: [u8; 12] = [0; 12];
     let groups: [u32; 12] = [0; 12];
-    let mut memo: [u8; 8192] = [0; 8192];
-    let others = others_within(entries);
+    let mut memo: [u8; 4096] = [0; 4096];
+    let others = others_asked(entries);
     place(
         entries,
         &mut memo,

@@ -4,7 +4,7 @@ use mathlib.Core.Path.{_≡_, subst}
 use native.Mathlib.Omega.{arith}
 use borrow.Author.Needs.{needs}
 use Rattle.search.specs.Placings.{GroupsOf}
-use Rattle.search.proofs.GroupLaws.{groups-none, groups-more, group-small}
+use Rattle.search.proofs.GroupLaws.{groups-none, groups-more}
 use Rattle.search.proofs.groups.groups_of.Statement.{statement}
 use Rattle.search.proofs.groups.groups_of.Tie as tie
 
@@ -19,7 +19,7 @@ with-term-requires c κs =
     let l = c .before in
     let s = l .before in
     let lt = s .pre .1 (l .loop .t) (c .loop-test .taken) in
-    (lt, omega arith, group-small (s .args .t1) (l .loop .groups) (l .loop .t) (omega arith) (l .loop .inv .1) _ lt)
+    (lt, omega arith)
 
 loop-again : tie.Need-loop-again Inv-loop μ-loop
 loop-again c =

@@ -1,9 +1,8 @@
 -- `has_mask` reads what is noted, or looks for the smallest mask and notes whether there is one.
 use mathlib.Core.Path.{sym, ap}
-use native.Mathlib.Omega.{arith}
 use borrow.Author.Needs.{needs}
 use Rattle.search.specs.Memos.{isThere, noted}
-use Rattle.search.proofs.MemoLaws.{place-below, memo-read, memo-note}
+use Rattle.search.proofs.MemoLaws.{memo-read, memo-note}
 use Rattle.search.proofs.SmallestLaws.{mask-is, mask-lacks}
 use Rattle.search.proofs.memos.has_mask.Statement.{statement}
 use Rattle.search.proofs.memos.has_mask.Tie as tie
@@ -12,33 +11,33 @@ returns : tie.Need-returns
 returns c =
     let s = c .before .before .before .before in
     let a = s .args in
-    (memo-read (a .entries .now) (a .sets) (a .memo .now) (a .at) (a .class) (a .placed) (s .pre .1 .0) (s .pre .1 .1) (c .if1 .taken), s .pre .1 .0)
+    (memo-read (a .entries .now) (a .sets) (a .memo .now) (a .class) (s .pre .1 .0) (c .if1 .taken), s .pre .1 .0)
 
 returns-2 : tie.Need-returns-2
 returns-2 c =
     let s = c .before .before .before .before .before .before .before in
     let a = s .args in
-    let mask = mask-is (a .entries .now) (a .sets) (a .class) (a .placed) (s .pre .0) (c .before .before .smallest-mask .result) (c .before .before .smallest-mask .ensures) _ (c .enum-told .given .1) in
-    (sym (ap isThere mask), memo-note (a .entries .now) (a .sets) (a .memo .now) (a .at) (a .class) (a .placed) (s .pre .1 .0) (s .pre .1 .1) 2 (sym (ap noted mask)))
+    let mask = mask-is (a .entries .now) (a .sets) (a .class) (s .pre .0) (c .before .before .smallest-mask .result) (c .before .before .smallest-mask .ensures) _ (c .enum-told .given .1) in
+    (sym (ap isThere mask), memo-note (a .entries .now) (a .sets) (a .memo .now) (a .class) (s .pre .1 .0) (s .pre .1 .1) 2 (sym (ap noted mask)))
 
 returns-3 : tie.Need-returns-3
 returns-3 c =
     let s = c .before .before .before .before .before .before .before in
     let a = s .args in
-    let mask = mask-lacks (a .entries .now) (a .sets) (a .class) (a .placed) (s .pre .0) (c .before .before .smallest-mask .result) (c .before .before .smallest-mask .ensures) (c .enum-told2 .given .1) in
-    (sym (ap isThere mask), memo-note (a .entries .now) (a .sets) (a .memo .now) (a .at) (a .class) (a .placed) (s .pre .1 .0) (s .pre .1 .1) 1 (sym (ap noted mask)))
+    let mask = mask-lacks (a .entries .now) (a .sets) (a .class) (s .pre .0) (c .before .before .smallest-mask .result) (c .before .before .smallest-mask .ensures) (c .enum-told2 .given .1) in
+    (sym (ap isThere mask), memo-note (a .entries .now) (a .sets) (a .memo .now) (a .class) (s .pre .1 .0) (s .pre .1 .1) 1 (sym (ap noted mask)))
 
 pub has-mask-spec : {M : Type 1} → statement M
 has-mask-spec =
     tie.close
     (tie.spec
-    (λ c. let s = c .before .before .before in omega (arith, place-below (s .args .at) (s .args .class) (s .args .placed) (s .pre .1 .1), s .pre .1 .0 .long))
+    (λ c. search needs)
     returns
     (λ c κs. search needs)
     (λ c. search needs)
-    (λ c. let s = c .before .before .before .before .before .before .before in omega (arith, place-below (s .args .at) (s .args .class) (s .args .placed) (s .pre .1 .1), s .pre .1 .0 .long))
     (λ c. search needs)
-    (λ c. let s = c .before .before .before .before .before .before .before in omega (arith, place-below (s .args .at) (s .args .class) (s .args .placed) (s .pre .1 .1), s .pre .1 .0 .long))
+    (λ c. search needs)
+    (λ c. search needs)
     (λ c. search needs)
     returns-2
     (λ c. search needs)

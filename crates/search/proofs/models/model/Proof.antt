@@ -39,7 +39,7 @@ returns c =
     let a = s .args in
     let smallest = c .before .before .before .smallest-mask in
     leaf-none (a .entries .now) (a .sets) (a .arrangement) (a .terms) (a .used) (s .pre .1 .1 .0) (s .pre .1 .0) (l .loop .k) _ (its-terms turn) (c .without-model .result) (omega arith)
-    (mask-lacks (a .entries .now) (a .sets) _ (a .terms) (s .pre .0) (smallest .result) (smallest .ensures) (c .before .enum-told .given .1)) (c .without-model .ensures)
+    (mask-lacks (a .entries .now) (a .sets) _ (s .pre .0) (smallest .result) (smallest .ensures) (c .before .enum-told .given .1)) (c .without-model .ensures)
 
 loop-again : tie.Need-loop-again Inv-loop μ-loop
 loop-again c =
@@ -53,7 +53,7 @@ loop-again c =
       length-set (l .loop .masks) (l .loop .k) _ ∙ l .loop .inv .2,
       rest-set (l .loop .masks) (l .loop .k) _ (inside turn) (l .loop .inv .3),
       leaf-more (a .entries .now) (a .sets) (a .arrangement) (a .terms) (a .used) (s .pre .1 .1 .0) (s .pre .1 .0) (l .loop .k) _ (its-terms turn) (l .loop .masks) _ (omega (arith, inside turn))
-          (mask-is (a .entries .now) (a .sets) _ (a .terms) (s .pre .0) (smallest .result) (smallest .ensures) _ (c .before .smallest .given .1)) (l .loop .inv .4),
+          (mask-is (a .entries .now) (a .sets) _ (s .pre .0) (smallest .result) (smallest .ensures) _ (c .before .smallest .given .1)) (l .loop .inv .4),
     )
 
 returns-2 : tie.Need-returns-2 Inv-loop μ-loop
@@ -74,7 +74,6 @@ model-spec =
     (λ c. let a = c .before .args in (refl, omega arith, refl, refl, no-masks-yet (a .entries .now) (a .sets) (take (a .terms) (a .arrangement)) (padded [])))
     (λ c. omega (arith, inside c))
     (λ c. omega (arith, inside c))
-    (λ c. search needs)
     (λ c κs. search needs)
     (λ c. search needs)
     (λ c. search needs)

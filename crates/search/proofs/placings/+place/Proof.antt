@@ -4,21 +4,25 @@ use Prim.Native.Nat.{ℕ, suc, _+_, _-_, _≤_, _<_}
 use mathlib.Core.Path.{_≡_, sym, subst, _∙_}
 use native.Mathlib.Omega.{arith}
 use borrow.Author.Needs.{needs}
+use borrow.Author.Tests.{not-true}
 use borrow.Fn.Kinds.{In}
 use borrow.Fn.PlainCycle.{Measures, is, falls, and}
 use lib.Dec.{T}
+use lib.Pow.{pow-mono}
 use Rattle.question.specs.Limits.{maxTerms}
 use Rattle.theory.specs.Solutions.{allRows}
 use Rattle.theory.specs.Sets.{rowDeclared}
 use Rattle.mask.specs.Entries.{rowsOfEntries}
 use Rattle.search.specs.Answers.{answerOf}
 use Rattle.search.specs.Memos.{Memo}
+use Rattle.search.specs.Fittings.{OthersAre}
 use Rattle.search.proofs.PlacingLaws.{placing-next}
 use Rattle.search.proofs.GroupLaws.{group-below, groups-next}
+use Rattle.search.proofs.FitLaws.{unfit-cut}
 use Rattle.search.proofs.StepLaws.{some-left, room, as-many, fewer, none-left, foundIn, Before, answer-none, answer-whole, before-first, answer-next, class-hit, class-miss, class-end}
 use Rattle.search.proofs.answers.is_possible.Reads as is-possible
 use Rattle.search.proofs.answers.without_model.Reads as without-model
-use Rattle.search.proofs.cuts.hopeless.Reads as hopeless
+use Rattle.search.proofs.fittings.all_fit.Reads as all-fit
 use Rattle.search.proofs.groups.with_term.Reads as with-term
 use Rattle.search.proofs.models.model.Reads as model
 use Rattle.search.proofs.placings.classes_with.Reads as classes-with
@@ -45,8 +49,8 @@ module _ (t : ℕ) where
 
   abbrev claims : lts.Claims
   claims = (
-    hopeless.Asked,
-    hopeless.Learnt,
+    all-fit.Asked,
+    all-fit.Learnt,
     without-model.Asked,
     without-model.Learnt,
     model.Asked,
@@ -61,11 +65,31 @@ module _ (t : ℕ) where
     is-possible.Learnt,
   )
 
+  all-fit-requires : lts.Need-all-fit-requires claims here place.Post Inv-loop μ-loop
+  all-fit-requires c κs =
+      let s = c .before .before .before in
+      let p = s .pre .1 in
+      let placing = p .0 .placing in (
+        (p .0 .few-sets, placing .few-classes, omega arith, p .1 .0),
+        (
+          p .0 .remembered,
+          (
+            λ k lt. omega (arith, group-below placing (p .0 .grouped) k (omega (arith, placing .few-classes, placing .few-terms)), pow-mono {i = s .args .placed} {j = maxTerms} (placing .few-terms)),
+            p .1 .1 .1,
+          ),
+        ),
+      )
+
   returns : lts.Need-returns claims here place.Post Inv-loop μ-loop
   returns c =
-      let told = c .before .before .before .before .hopeless .ensures in
-      let a = c .before .before .before .before .before .before .before .before .args in
-      (answer-none (a .entries .now) (a .sets) (a .arrangement) (a .placed) (a .left) (a .used) (c .without-model .result) (c .without-model .ensures) (told .0 (c .before .if1 .taken)), told .1)
+      let told = c .before .before .before .before .all-fit in
+      let s = c .before .before .before .before .before .before .before .before in
+      let a = s .args in
+      let nothing = told .ensures .0 (not-true (told .result) (c .before .if1 .taken)) in (
+        answer-none (a .entries .now) (a .sets) (a .arrangement) (a .placed) (a .left) (a .used) (c .without-model .result) (c .without-model .ensures)
+            (unfit-cut (s .pre .1 .0 .placing) (s .pre .1 .0 .grouped) (a .entries .now) (a .sets) (a .others) (a .left) nothing),
+        told .ensures .1,
+      )
 
   model-requires : lts.Need-model-requires claims here place.Post Inv-loop μ-loop
   model-requires c κs =
@@ -76,13 +100,13 @@ module _ (t : ℕ) where
   returns-2 : lts.Need-returns-2 claims here place.Post Inv-loop μ-loop
   returns-2 c =
       let a = c .before .before .before .before .before .before .before .before .before .args in
-      (answer-whole (a .entries .now) (a .sets) (a .arrangement) (a .placed) (a .left) (a .used) (c .model .result) (c .before .if2 .taken) (c .model .ensures), c .before .before .before .before .before .hopeless .ensures .1)
+      (answer-whole (a .entries .now) (a .sets) (a .arrangement) (a .placed) (a .left) (a .used) (c .model .result) (c .before .if2 .taken) (c .model .ensures), c .before .before .before .before .before .all-fit .ensures .1)
 
   loop-holds : lts.Need-loop-holds claims here place.Post Inv-loop μ-loop
   loop-holds c =
       let s = c .before .before .before .before .before .before .before .before in
       let a = s .args in
-      (omega arith, before-first (a .entries .now) (a .sets) (a .arrangement) (a .placed) (a .left) (a .used) (s .pre .1 .0 .placing) (some-left (a .placed) (a .left) (c .if2 .left)), c .before .before .before .before .hopeless .ensures .1)
+      (omega arith, before-first (a .entries .now) (a .sets) (a .arrangement) (a .placed) (a .left) (a .used) (s .pre .1 .0 .placing) (some-left (a .placed) (a .left) (c .if2 .left)), c .before .before .before .before .all-fit .ensures .1)
 
   -- the state at the call's start, seen from its loop
   abbrev start : lts.At-loop claims here place.Post Inv-loop μ-loop → lts.Start claims here place.Post Inv-loop μ-loop
@@ -102,7 +126,7 @@ module _ (t : ℕ) where
   with-term-requires c κs =
       let l = c .before .before in
       let s = start l in
-      (inside (c .before), room-here l, group-below (s .pre .1 .0 .placing) (s .pre .1 .0 .grouped) (l .loop .c) (inside (c .before)))
+      (inside (c .before), room-here l)
 
   place-requires : lts.Need-place-requires claims here place.Post Inv-loop μ-loop
   place-requires c κs =
@@ -118,7 +142,7 @@ module _ (t : ℕ) where
             placing = placing-next (s .pre .1 .0 .placing) (l .loop .c) (room-here l) (c .before .before .classes-with .result) (allowed (c .before .before .before)) (c .before .before .classes-with .ensures);
             grouped = groups-next (s .pre .1 .0 .placing) (s .pre .1 .0 .grouped) (l .loop .c) (room-here l) (inside (c .before .before .before)) (c .before .with-term .result) (c .before .with-term .ensures);
           },
-          (subst (λ n. n ≤ maxTerms) all (s .pre .1 .1 .0), (subst (λ n. T (allRows (rowDeclared n (a .sets)) (rowsOfEntries (a .entries .now)))) all (s .pre .1 .1 .1 .0), s .pre .1 .1 .1 .1)),
+          (subst (λ n. n ≤ maxTerms) all (s .pre .1 .1 .0), (subst (λ n. T (allRows (rowDeclared n (a .sets)) (rowsOfEntries (a .entries .now)))) all (s .pre .1 .1 .1 .0), subst (OthersAre (a .entries .now) (a .others)) all (s .pre .1 .1 .1 .1))),
         ),
       )
 
@@ -161,12 +185,12 @@ module _ (t : ℕ) where
 pub +place-spec : {M : Type 1} → statement M
 +place-spec =
     close μ-place λ t. lts.spec (claims t) (here t) place.Post Inv-loop μ-loop
-    (λ c κs. let s = c .before .before .before in (s .pre .1 .0, (s .pre .1 .1 .1 .1, s .pre .1 .1 .0)))
+    (all-fit-requires t)
     (λ c κs. search needs)
-    (λ c. c .before .before .before .before .hopeless .ensures .1 .long ∙ sym (c .before .before .before .before .before .before .before .before .pre .1 .0 .remembered .long))
+    (λ c. c .before .before .before .before .all-fit .ensures .1 .long ∙ sym (c .before .before .before .before .before .before .before .before .pre .1 .0 .remembered .long))
     (returns t)
     (model-requires t)
-    (λ c. c .before .before .before .before .before .hopeless .ensures .1 .long ∙ sym (c .before .before .before .before .before .before .before .before .before .pre .1 .0 .remembered .long))
+    (λ c. c .before .before .before .before .before .all-fit .ensures .1 .long ∙ sym (c .before .before .before .before .before .before .before .before .before .pre .1 .0 .remembered .long))
     (returns-2 t)
     (loop-holds t)
     (λ c. room-here t (c .before))

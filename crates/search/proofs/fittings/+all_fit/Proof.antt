@@ -1,0 +1,220 @@
+-- `all_fit` is a recursion over the terms left, whose number falls. Its loop stands before the set k:
+-- with the term in one of the sets before, nothing fits, and the memo is right.
+use Prim.Native.Nat.{ℕ, _+_, _-_, _^_, _≤_, _<_}
+use mathlib.Core.Path.{_≡_, sym, subst, _∙_}
+use mathlib.Core.Bool.{true≢false}
+use native.Mathlib.Omega.{arith}
+use borrow.Author.Needs.{needs}
+use borrow.Author.Tests.{not-true}
+use borrow.Fn.Kinds.{In}
+use borrow.Fn.PlainCycle.{Measures, is, falls, and}
+use lib.ListN.{length}
+use Rattle.question.specs.Limits.{maxTerms}
+use Rattle.mask.specs.Entries.{rowsOfEntries}
+use Rattle.cut.specs.Others.{before}
+use Rattle.cut.proofs.OtherLaws.{before-next}
+use Rattle.cut.proofs.TriedLaws.{Tried, tried-none, tried-stuck, tried-new}
+use Rattle.search.specs.Memos.{Memo}
+use Rattle.search.specs.Fittings.{OthersAre, NothingFits}
+use Rattle.search.proofs.StepLaws.{as-many}
+use Rattle.search.proofs.FitLaws.{sets-joined, sets-new, fits-past}
+use Rattle.search.proofs.groups.has_term.Reads as has-term
+use Rattle.search.proofs.groups.with_set.Reads as with-set
+use Rattle.search.proofs.groups.with_term.Reads as with-term
+use Rattle.search.proofs.fittings.settled_fits.Reads as settled-fits
+use Rattle.search.proofs.fittings.all_fit.Reads as all-fit
+use Rattle.search.proofs.fittings.all_fit.Kinds as kinds
+use Rattle.search.proofs.fittings.+all_fit.Lts-all_fit as lts
+use Rattle.search.proofs.fittings.+all_fit.{statement}
+use Rattle.search.proofs.fittings.+all_fit.Tie.{close}
+
+-- how many terms are left
+abbrev μ-all-fit : Measures 2 kinds.ps ℕ
+μ-all-fit κs a = a .1 .1 .1 .1 .1 .1 .1 .0
+
+abbrev Inv-loop : lts.InvT-loop
+Inv-loop entries memo₀ others groups used from term left sets k₀ memo k = (k ≤ used) × Tried (2 ^ sets) (rowsOfEntries entries) (before others term) groups used (term + left) term k × Memo entries sets memo
+
+abbrev μ-loop : lts.MeasureT-loop
+μ-loop entries memo₀ others groups used from term left sets k₀ memo k = used - k
+
+-- a call with t terms left, and what the calls inside it ask and tell
+module _ (t : ℕ) where
+  abbrev here : In 2 kinds.ps
+  here = and 2 kinds.ps (is 2 kinds.ps μ-all-fit t) all-fit.Pre
+
+  abbrev claims : lts.Claims
+  claims = (
+    settled-fits.Asked,
+    settled-fits.Learnt,
+    has-term.Asked,
+    has-term.Learnt,
+    and 2 kinds.ps (falls 2 kinds.ps _<_ μ-all-fit t) all-fit.Pre,
+    all-fit.Post,
+    with-term.Asked,
+    with-term.Learnt,
+    with-set.Asked,
+    with-set.Learnt,
+  )
+
+  -- no term is left
+  none-left : (c : lts.Then1 claims here all-fit.Post Inv-loop μ-loop) → let a = c .before .before .before .args in a .from + (a .term - a .from) ≡ a .term
+  none-left c = omega (arith, c .before .before .before .pre .1 .0 .2)
+
+  as-before : (c : lts.Then1 claims here all-fit.Post Inv-loop μ-loop) → let a = c .before .before .before .args in a .term + a .left ≡ a .term
+  as-before c = omega (arith, c .if1 .taken)
+
+  settled-requires : lts.Need-settled-fits-requires claims here all-fit.Post Inv-loop μ-loop
+  settled-requires c κs =
+      let e = c .before in
+      let s = e .before .before .before in
+      let p = s .pre .1 in (
+        (p .0 .0, omega (arith, p .0 .1, p .0 .3), omega (arith, none-left e, p .0 .3)),
+        (p .1 .0, (p .1 .1 .0, subst (OthersAre (s .args .entries .now) (s .args .others)) (as-before e ∙ sym (none-left e)) (p .1 .1 .1))),
+      )
+
+  returns : lts.Need-returns claims here all-fit.Post Inv-loop μ-loop
+  returns c =
+      let call = c .before .before in
+      let e = call .before .before in
+      let a = e .before .before .before .args in (
+        λ r. subst (λ n. NothingFits (a .entries .now) (a .sets) (a .others) (a .term) (a .groups) (a .used) n) (sym (as-before e))
+            (subst (λ n. NothingFits (a .entries .now) (a .sets) (a .others) n (a .groups) (a .used) n) (none-left e) (call .settled-fits .ensures .0 r)),
+        call .settled-fits .ensures .1,
+      )
+
+  -- some term is left, and it is one of twelve
+  some-left : (c : lts.Else1 claims here all-fit.Post Inv-loop μ-loop) → 0 < c .before .before .before .args .left
+  some-left c = let ne : c .before .before .before .args .left ≡ 0 → ⊥ = c .if1 .left in omega arith
+
+  room : (c : lts.Else1 claims here all-fit.Post Inv-loop μ-loop) → c .before .before .before .args .term < maxTerms
+  room c = omega (arith, some-left c, c .before .before .before .pre .1 .0 .3)
+
+  -- with the next term there are as many
+  all : (c : lts.Else1 claims here all-fit.Post Inv-loop μ-loop) → let a = c .before .before .before .args in a .term + a .left ≡ a .term + 1 + (a .left - 1)
+  all c = let a = c .before .before .before .args in as-many (a .term) (a .left) (c .if1 .left)
+
+  others-next : (c : lts.Else1 claims here all-fit.Post Inv-loop μ-loop) → let a = c .before .before .before .args in OthersAre (a .entries .now) (a .others) (a .term + 1 + (a .left - 1))
+  others-next c = let s = c .before .before .before in subst (OthersAre (s .args .entries .now) (s .args .others)) (all c) (s .pre .1 .1 .1 .1)
+
+  skip-requires : lts.Need-all-fit-requires claims here all-fit.Post Inv-loop μ-loop
+  skip-requires c κs =
+      let e = c .before .before .before in
+      let p = e .before .before .before .pre in (
+        omega (arith, some-left e, p .0),
+        ((p .1 .0 .0, omega (arith, p .1 .0 .1), omega (arith, p .1 .0 .2), omega (arith, some-left e, p .1 .0 .3)), (p .1 .1 .0, (p .1 .1 .1 .0, others-next e))),
+      )
+
+  returns-2 : lts.Need-returns-2 claims here all-fit.Post Inv-loop μ-loop
+  returns-2 c =
+      let call = c .before .before in
+      let asked = call .before .before .before .has-term in
+      let e = call .before .before .before .before in
+      let a = e .before .before .before .args in (
+        λ r. fits-past (a .entries .now) (a .sets) (a .others) (a .term) (a .groups) (a .used) (a .term + a .left) (sym (asked .ensures) ∙ not-true (asked .result) (call .before .before .if2 .taken))
+            (subst (NothingFits (a .entries .now) (a .sets) (a .others) (a .term + 1) (a .groups) (a .used)) (sym (all e)) (call .all-fit .ensures .0 r)),
+        call .all-fit .ensures .1,
+      )
+
+  -- what stands before the loop, and the call's start
+  abbrev first : lts.At-loop claims here all-fit.Post Inv-loop μ-loop → lts.Else1 claims here all-fit.Post Inv-loop μ-loop
+  first l = l .before .before .before
+
+  abbrev start : lts.At-loop claims here all-fit.Post Inv-loop μ-loop → lts.Start claims here all-fit.Post Inv-loop μ-loop
+  start l = first l .before .before .before
+
+  -- there is room for a new set, and so for each before it
+  free : (l : lts.At-loop claims here all-fit.Post Inv-loop μ-loop) → start l .args .used < length (start l .args .groups)
+  free l = omega (arith, room (first l), start l .pre .1 .0 .1)
+
+  inside : (c : lts.In-loop claims here all-fit.Post Inv-loop μ-loop) → c .before .loop .k < length (start (c .before) .args .groups)
+  inside c = omega (arith, c .loop-test .taken, free (c .before))
+
+  in-set-requires : lts.Need-all-fit-requires-2 claims here all-fit.Post Inv-loop μ-loop
+  in-set-requires c κs =
+      let turn = c .before .before in
+      let l = turn .before in
+      let e = first l in
+      let s = start l in
+      let p = s .pre in
+      let next = c .before .with-term in (
+        omega (arith, some-left e, p .0),
+        (
+          (p .1 .0 .0, omega (arith, p .1 .0 .1), omega (arith, p .1 .0 .2), omega (arith, some-left e, p .1 .0 .3)),
+          (l .loop .inv .2, (sets-joined (s .args .groups) (s .args .used) (s .args .term) (room e) (p .1 .1 .1 .0) (l .loop .k) (turn .loop-test .taken) (inside turn) (next .result) (next .ensures), others-next e)),
+        ),
+      )
+
+  loop-again : lts.Need-loop-again claims here all-fit.Post Inv-loop μ-loop
+  loop-again c =
+      let call = c .before .before .before in
+      let turn = call .before .before .before in
+      let l = turn .before in
+      let a = start l .args in
+      let next = call .before .before .with-term in (
+        omega arith,
+        tried-stuck (2 ^ (a .sets)) (rowsOfEntries (a .entries .now)) (before (a .others) (a .term)) (a .groups) (a .used) (a .term + a .left) (a .term) (l .loop .k) (turn .loop-test .taken) (inside turn) (l .loop .inv .1)
+            (before (a .others) (a .term + 1)) (before-next (a .others) (a .term)) (next .result) (next .ensures)
+            (subst (NothingFits (a .entries .now) (a .sets) (a .others) (a .term + 1) (next .result) (a .used)) (sym (all (first l))) (call .all-fit2 .ensures .0 (c .if3 .left))),
+        call .all-fit2 .ensures .1,
+      )
+
+  new-set-requires : lts.Need-all-fit-requires-3 claims here all-fit.Post Inv-loop μ-loop
+  new-set-requires c κs =
+      let l = c .before .before .before in
+      let e = first l in
+      let s = start l in
+      let p = s .pre in
+      let next = c .before .with-set in (
+        omega (arith, some-left e, p .0),
+        (
+          (p .1 .0 .0, omega (arith, p .1 .0 .1), omega (arith, p .1 .0 .2), omega (arith, some-left e, p .1 .0 .3)),
+          (l .loop .inv .2, (sets-new (s .args .groups) (s .args .used) (s .args .term) (room e) (p .1 .1 .1 .0) (free l) (next .result) (next .ensures), others-next e)),
+        ),
+      )
+
+  returns-4 : lts.Need-returns-4 claims here all-fit.Post Inv-loop μ-loop
+  returns-4 c =
+      let call = c .before .before in
+      let l = call .before .before .before .before in
+      let a = start l .args in
+      let next = call .before .before .with-set in (
+        λ r. tried-new (2 ^ (a .sets)) (rowsOfEntries (a .entries .now)) (before (a .others) (a .term)) (a .groups) (a .used) (a .term + a .left) (a .term) (l .loop .k) (call .before .before .before .loop-test .left) (omega (arith, some-left (first l)))
+            (l .loop .inv .1) (before (a .others) (a .term + 1)) (before-next (a .others) (a .term)) (free l) (next .result) (next .ensures)
+            (subst (NothingFits (a .entries .now) (a .sets) (a .others) (a .term + 1) (next .result) (a .used + 1)) (sym (all (first l))) (call .all-fit3 .ensures .0 r)),
+        call .all-fit3 .ensures .1,
+      )
+
+pub +all-fit-spec : {M : Type 1} → statement M
++all-fit-spec =
+    close μ-all-fit λ t. lts.spec (claims t) (here t) all-fit.Post Inv-loop μ-loop
+    (λ c. c .before .before .before .before .pre .1 .0 .2)
+    (settled-requires t)
+    (λ c. c .before .before .settled-fits .ensures .1 .long ∙ sym (c .before .before .before .before .before .before .before .pre .1 .1 .0 .long))
+    (returns t)
+    (λ c κs. omega (arith, room t c))
+    (λ c. omega (arith, room t (c .before .before .before)))
+    (λ c. some-left t (c .before .before .before))
+    (skip-requires t)
+    (λ c. c .before .before .all-fit .ensures .1 .long ∙ sym (c .before .before .before .before .before .before .before .before .before .pre .1 .1 .0 .long))
+    (returns-2 t)
+    (λ c.
+    let s = c .before .before .before .before .before in
+    let a = s .args in
+    (omega arith, tried-none (2 ^ (a .sets)) (rowsOfEntries (a .entries .now)) (before (a .others) (a .term)) (a .groups) (a .used) (a .term + a .left) (a .term), s .pre .1 .1 .0))
+    (λ c κs. (omega (arith, c .loop-test .taken, start t (c .before) .pre .1 .0 .1, room t (first t (c .before))), room t (first t (c .before))))
+    (λ c. omega (arith, room t (first t (c .before .before .before))))
+    (λ c. some-left t (first t (c .before .before .before)))
+    (in-set-requires t)
+    (λ c. c .before .before .before .all-fit2 .ensures .1 .long ∙ sym (start t (c .before .before .before .before .before .before .before) .pre .1 .1 .0 .long))
+    (λ c. ((λ r. absurd (true≢false r)), c .before .before .before .all-fit2 .ensures .1))
+    (λ c. search needs)
+    (λ c. search needs)
+    (loop-again t)
+    (λ c κs. (omega (arith, start t (c .before) .pre .1 .0 .1, room t (first t (c .before))), room t (first t (c .before))))
+    (λ c. omega (arith, start t (c .before .before .before) .pre .1 .0 .1, room t (first t (c .before .before .before))))
+    (λ c. omega (arith, room t (first t (c .before .before .before))))
+    (λ c. some-left t (first t (c .before .before .before)))
+    (new-set-requires t)
+    (λ c. c .before .before .all-fit3 .ensures .1 .long ∙ sym (start t (c .before .before .before .before .before .before) .pre .1 .1 .0 .long))
+    (returns-4 t)

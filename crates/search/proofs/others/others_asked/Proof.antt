@@ -1,0 +1,35 @@
+-- `others_asked` walks the entries: what it has is enough for the rows of those passed.
+use Prim.Native.Nat.{_-_, _≤_}
+use native.Mathlib.Omega.{arith}
+use borrow.Author.Needs.{needs}
+use lib.ListN.{length}
+use Rattle.search.proofs.OtherLaws.{Enough, enough-start, enough-turn, enough-end}
+use Rattle.search.proofs.others.others_asked.Statement.{statement}
+use Rattle.search.proofs.others.others_asked.Tie as tie
+
+abbrev Inv-loop : tie.InvT-loop
+Inv-loop entries others₀ i₀ others i = (i ≤ length entries) × Enough entries others i
+
+abbrev μ-loop : tie.MeasureT-loop
+μ-loop entries others₀ i₀ others i = length entries - i
+
+loop-again : tie.Need-loop-again Inv-loop μ-loop
+loop-again c =
+    let l = c .before .before .before in
+    (omega arith, enough-turn (l .before .before .args .entries .now) (l .loop .others) (l .loop .i) (c .other-asked .result) (omega arith) (c .other-asked .ensures) (l .loop .inv .1))
+
+pub others-asked-spec : {M : Type 1} → statement M
+others-asked-spec =
+    tie.close
+    (tie.spec
+    Inv-loop
+    μ-loop
+    (λ c. (omega arith, enough-start (c .before .args .entries .now)))
+    (λ c. search needs)
+    (λ c. search needs)
+    (λ c. search needs)
+    (λ c κs. search needs)
+    (λ c. search needs)
+    (λ c. search needs)
+    loop-again
+    (λ c. enough-end (c .before .before .before .args .entries .now) (c .before .loop .others) (c .before .loop .i) (c .loop-test .left) (c .before .loop .inv .1)))
