@@ -14,7 +14,7 @@ use Rattle.question.specs.Masks.{bit}
 use Rattle.question.proofs.TestLaws.{same-test}
 use Rattle.theory.proofs.DigitLaws.{digit}
 use Rattle.mask.specs.Reasons.{raised}
-use Rattle.mask.proofs.RaisedLaws.{digit-lt, digit-of-zero, digit-suc, raised-fits}
+use Rattle.mask.proofs.RaisedLaws.{digit-lt, digit-of-zero, digit-suc, raised-more, raised-fits}
 
 -- a bit that is set is the largest digit, and one that is not can rise
 pub bit-set : (m q : ℕ) → bit m q ≡ true → digit 2 m q + 1 ≡ 2
@@ -46,9 +46,9 @@ or-other a b x lacks h =
     let ne : b / 2 ^ x % 2 ≢ 1 = eqb-false (b / 2 ^ x % 2) 1 lacks in
     eq-eqb (a / 2 ^ x % 2) 1 (omega (arith, joined (a / 2 ^ x) (b / 2 ^ x)))
 
--- a word raised at a bit that it lacks is a word
-pub word-raised : (m q : ℕ) → q < 32 → m < 2 ^ 32 → bit m q ≡ false → raised 2 q m < 2 ^ 32
-word-raised m q hq hm e = raised-fits 2 q m (omega arith) (bit-clear m q e) 32 hq hm
+-- a number of s bits raised at one that it lacks is larger, and has s bits
+pub raised-larger : (s m q : ℕ) → q < s → m < 2 ^ s → bit m q ≡ false → (m < raised 2 q m) × (raised 2 q m < 2 ^ s)
+raised-larger s m q hq hm e = (raised-more 2 q m (omega arith) (bit-clear m q e), raised-fits 2 q m (omega arith) (bit-clear m q e) s hq hm)
 
 -- the quotient that is shifted up is no larger than the word that it makes
 pub quotient-small : (m q : ℕ) → m / 2 ^ q + 1 ≤ raised 2 q m

@@ -6,7 +6,9 @@ use mathlib.Core.Bool.{Bool, true, false, not, _&&_, _||_, cond, true≢false}
 use mathlib.Core.List.{_∷_}
 use native.Mathlib.Omega.{arith}
 use native.Mathlib.Decide.{ℕ-discrete}
+use borrow.Author.Tests.{eqb-true, eqb-false, not-true, not-false}
 use lib.Bits.{bitAnd, and-le-l}
+use lib.Dec.{eqb}
 use Rattle.question.specs.Masks.{bit}
 use Rattle.question.proofs.TestLaws.{same-test}
 use Rattle.theory.specs.Rules.{Row, row}
@@ -14,6 +16,7 @@ use Rattle.theory.specs.Sets.{Test, fits}
 use Rattle.theory.specs.Solutions.{allRows}
 use Rattle.mask.specs.Least.{meetsRow}
 use Rattle.mask.specs.Entries.{termRoom, testIn, termsIn, rowsFor, rowsOfEntry}
+use Rattle.mask.specs.Tests.{isAsked}
 use Rattle.mask.proofs.BitLaws.{both-true, bit-and, bit-both, bit-of-zero, some-bit}
 
 -- the walk over the rows of some terms passes exactly if each of them does
@@ -67,6 +70,14 @@ module _ (class : ℕ) (P : Bool) (t : Test) (f : Row Test → Bool) (f-is : (c 
 
       from : P ≡ true → allRows f (rowsFor termRoom 0 terms t) ≡ true
       from e = rows-pass f t termRoom 0 terms (λ d lo hi b. f-is d ∙ ap (λ p. not (bit class d) || p) e ∙ always (not (bit class d)))
+
+-- an entry is asked of a class that has one of its terms
+module _ (class e : ℕ) where
+  pub not-asked : isAsked class e ≡ false → bitAnd (termsIn e) class ≡ 0
+  not-asked h = eqb-true (bitAnd (termsIn e) class) 0 (not-false (eqb (bitAnd (termsIn e) class) 0) h)
+
+  pub asked : isAsked class e ≡ true → bitAnd (termsIn e) class ≢ 0
+  asked h = eqb-false (bitAnd (termsIn e) class) 0 (not-true (eqb (bitAnd (termsIn e) class) 0) h)
 
 module _ (class m e : ℕ) where
   -- no term of the entry is in the class

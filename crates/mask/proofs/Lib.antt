@@ -5,8 +5,10 @@ pub mod ReasonLaws
 pub mod BitLaws
 pub mod RowLaws
 pub mod EntryLaws
+pub mod LowestLaws
 pub mod BlameLaws
 pub mod TrialLaws
 pub mod LeastLaws
+pub mod NoteLaws
 pub mod WalkLaws
 pub mod OneResultLaws

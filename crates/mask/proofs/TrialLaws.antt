@@ -13,7 +13,6 @@ use Rattle.theory.proofs.DigitLaws.{digit}
 use Rattle.mask.specs.declared.trials.Trial.the-variants.{Next, Over}
 use Rattle.mask.specs.Reasons.{Decided, Reasons, raised}
 use Rattle.mask.specs.Trials.{IsOfNoUse, reasonAt, HasReasons, IsDecided, TrialIs}
-use Rattle.mask.proofs.RaisedLaws.{raised-more, raised-fits}
 use Rattle.mask.proofs.ReasonLaws.{decided-pass, decided-resolve, reasons-next, decided-over}
 use Rattle.mask.proofs.BitLaws.{bit-set, bit-clear, or-left, or-right}
 
@@ -35,8 +34,8 @@ module _ (m : ℕ) (why : List ℕ) (decided : ℕ) where
 
   module _ (sets : ℕ) (hm : m < 2 ^ sets) where
     -- the first of them that m lacks is set, and those above it are its reason
-    pub trial-next : (q c : ℕ) → sets ≤ 32 → q < sets → bit m q ≡ false → Carried q c → TrialIs sets m decided why (set why q c) (Next (raised 2 q m))
-    trial-next q c few hq e h = (raised-more 2 q m base room, raised-fits 2 q m base room sets hq hm, λ meets r d. (simp length-set (r .0), reasons meets r d))
+    pub trial-next : (q c : ℕ) → sets ≤ 32 → q < sets → bit m q ≡ false → Carried q c → TrialIs sets m decided why (set why q c) (Next q)
+    trial-next q c few hq e h = (hq, e, λ meets r d. (simp length-set (r .0), reasons meets r d))
       where
         room : digit 2 m q + 1 < 2
         room = bit-clear m q e

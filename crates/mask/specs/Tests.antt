@@ -1,6 +1,14 @@
--- What the test of a row asks of its places.
-use Prim.Native.Nat.{_<_}
+-- Of which classes an entry is asked, and what the test of a row takes for granted of its places.
+use Prim.Native.Nat.{ℕ, _<_}
+use mathlib.Core.Bool.{Bool, not}
+use lib.Bits.{bitAnd}
+use lib.Dec.{eqb}
 use Rattle.row.specs.declared.parts.RowParts.{RowParts}
+use Rattle.mask.specs.Entries.{termsIn}
+
+-- has the entry a row for a term of the class
+abbrev pub isAsked : ℕ → ℕ → Bool
+isAsked class e = not (eqb (bitAnd (termsIn e) class) 0)
 
 -- the places of a row are numbers of bits, of a mask or of a set of terms
 pub record PlacesAreBits (p : RowParts) : Type 0 where

@@ -7,7 +7,7 @@ use lib.ListN.{length, getD}
 use Rattle.question.specs.Masks.{bit}
 use Rattle.mask.specs.declared.trials.Trial.{Trial}
 use Rattle.mask.specs.declared.trials.Trial.the-variants.{Next, Over}
-use Rattle.mask.specs.Reasons.{Decided, Reasons}
+use Rattle.mask.specs.Reasons.{Decided, Reasons, raised}
 
 -- the mask w is of no use
 abbrev pub IsOfNoUse : (ℕ → Bool) → ℕ → Type 0
@@ -25,7 +25,7 @@ HasReasons meets why m = (length why ≡ 32) × Reasons 2 (IsOfNoUse meets) (rea
 abbrev pub IsDecided : (ℕ → Bool) → ℕ → ℕ → Type 0
 IsDecided meets decided m = Decided 2 (IsOfNoUse meets) 0 (bit decided) m
 
--- what a trial of m leads to, whatever the test, if m has its reasons and is decided: a larger mask of so many bits, which has its reasons, or the end, for no mask of so many bits is of use
+-- what a trial of m leads to, whatever the test, if m has its reasons and is decided: a bit that m lacks, and m raised there has its reasons; or the end, for no mask of so many bits is of use
 abbrev pub TrialIs : ℕ → ℕ → ℕ → List ℕ → List ℕ → Trial → Type 0
-TrialIs sets m decided why new (Next n) = (m < n) × (n < 2 ^ sets) × ((meets : ℕ → Bool) → HasReasons meets why m → IsDecided meets decided m → HasReasons meets new n)
+TrialIs sets m decided why new (Next q) = (q < sets) × (bit m q ≡ false) × ((meets : ℕ → Bool) → HasReasons meets why m → IsDecided meets decided m → HasReasons meets new (raised 2 q m))
 TrialIs sets m decided why new Over = (meets : ℕ → Bool) → HasReasons meets why m → IsDecided meets decided m → (w : ℕ) → w < 2 ^ sets → IsOfNoUse meets w

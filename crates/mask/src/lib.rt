@@ -2,9 +2,11 @@
 mod bits;
 mod blames;
 mod entries;
+mod lowest;
 mod masks;
 mod tests;
 mod trials;
+mod walks;
 
 pub use masks::Smallest;
 pub use masks::smallest_mask;

@@ -1,9 +1,11 @@
-// The smallest mask of a class of terms: a loop over the masks worth a trial, each put to the entries in order.
+// The smallest mask of a class of terms: a loop over the masks worth a trial, each put to the entries that it may fail.
+use crate::bits::raise;
 use crate::blames::blame;
 use crate::entries::row_in;
-use crate::tests::meets;
 use crate::trials::Trial;
 use crate::trials::next_mask;
+use crate::walks::back_to;
+use crate::walks::walk;
 ghost use mathlib.Core.Path.{_≡_};
 ghost use Prim.Native.Nat.{_^_, min};
 ghost use Rattle.mask.specs.Least.{leastMask};
@@ -23,31 +25,28 @@ fn width(sets: u8) -> u8
 }
 
 // The smallest mask of the class (a set of terms) that meets every row of the entries; a mask has at most 32 bits.
-// Masks are tried upward. The first entry that a mask fails says which bits are to blame, and masks that would fail for the same reason are left out.
+// Masks are tried upward. The first entry that a mask fails says which bits are to blame, and masks that would fail for the same reason are left out. The next mask is put to the entries from the first on that asks a bit which has changed.
 pub fn smallest_mask(entries: &[u64], class: u32, sets: u8) -> Smallest
     ensures { λ r. ⌜ r ≡ smallestOf (leastMask (2 ^ min sets 32) (rowsOfEntries (now (entries .entry))) class) ⌝ }
 {
     let bits = width(sets);
     let mut m: u32 = 0;
     let mut why = [0u32; 32];
-    'masks: loop {
-        let mut i: usize = 0;
-        let decided = 'entries: loop {
-            if i >= entries.len() {
-                break 'masks Smallest::At(m);
-            }
-            let entry = entries[i];
-            if !meets(entry, class, m) {
-                break 'entries blame(row_in(entry), m);
-            }
-            i += 1;
-        };
+    let mut first = [u16::MAX; 32];
+    let mut i: usize = 0;
+    loop {
+        i = walk(entries, class, m, i, &mut first, bits);
+        if i >= entries.len() {
+            break Smallest::At(m);
+        }
+        let decided = blame(row_in(entries[i]), m);
         match next_mask(m, &mut why, decided, bits) {
-            Trial::Next(next) => {
-                m = next;
+            Trial::Next(q) => {
+                m = raise(m, q);
+                i = back_to(&first, q, i);
             }
             Trial::Over => {
-                break 'masks Smallest::Nothing;
+                break Smallest::Nothing;
             }
         }
     }

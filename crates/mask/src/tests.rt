@@ -11,7 +11,7 @@ ghost use Rattle.theory.specs.Solutions.{allRows};
 ghost use Rattle.row.specs.Rows.{rowOfParts};
 ghost use Rattle.mask.specs.Least.{meetsRow};
 ghost use Rattle.mask.specs.Entries.{rowsOfEntry};
-ghost use Rattle.mask.specs.Tests.{PlacesAreBits};
+ghost use Rattle.mask.specs.Tests.{isAsked, PlacesAreBits};
 
 // Does a class with the mask m pass the row's test.
 fn passes(p: RowParts, class: u32, m: u32) -> bool
@@ -42,11 +42,18 @@ fn passes(p: RowParts, class: u32, m: u32) -> bool
     }
 }
 
+// Has the entry a row for a term of the class.
+pub(crate) fn is_asked(entry: u64, class: u32) -> bool
+    ensures { λ r. ⌜ r ≡ isAsked class entry ⌝ }
+{
+    terms_in(entry) & class != 0
+}
+
 // Does the mask m of a class meet the rows of the entry. If none of their terms is in the class, they are passed over; else one test is that of all.
 pub(crate) fn meets(entry: u64, class: u32, m: u32) -> bool
     ensures { λ r. ⌜ r ≡ allRows (meetsRow class m) (rowsOfEntry entry) ⌝ }
 {
-    if terms_in(entry) & class == 0 {
+    if !is_asked(entry, class) {
         return true;
     }
     passes(unpack(row_in(entry)), class, m)

@@ -1,12 +1,11 @@
 // The next mask worth a trial, from the bits that decide that the last one is of no use and the reasons kept so far.
 use crate::bits::bit;
-use crate::bits::raise;
 ghost use Prim.Native.Nat.{_^_, _<_, _≤_};
 ghost use Rattle.mask.specs.Trials.{TrialIs};
 
 pub(crate) enum Trial {
-    // The next mask worth a trial.
-    Next(u32),
+    // The next mask worth a trial is m raised at this bit.
+    Next(u8),
     // No mask is left.
     Over,
 }
@@ -23,7 +22,7 @@ pub(crate) fn next_mask(m: u32, why: &mut [u32; 32], decided: u32, sets: u8) -> 
             let at = q as usize;
             if !bit(m, q) {
                 why[at] = c;
-                return Trial::Next(raise(m, q));
+                return Trial::Next(q);
             }
             c = c | why[at];
         }

@@ -4,12 +4,12 @@ use native.Mathlib.Omega.{arith}
 use native.Mathlib.Nat.{mod-eq-of-lt}
 use borrow.Author.Needs.{needs}
 use Rattle.mask.specs.Reasons.{raised}
-use Rattle.mask.proofs.BitLaws.{word-raised, quotient-small}
+use Rattle.mask.proofs.BitLaws.{raised-larger, quotient-small}
 use Rattle.mask.proofs.bits.raise.Statement.{statement}
 use Rattle.mask.proofs.bits.raise.Tie as tie
 
 fits : (c : tie.Start) → raised 2 (c .args .q) (c .args .m) < 2 ^ 32
-fits c = word-raised (c .args .m) (c .args .q) (c .pre .0) (omega arith) (c .pre .1)
+fits c = raised-larger 32 (c .args .m) (c .args .q) (c .pre .0) (omega arith) (c .pre .1) .1
 
 pub raise-spec : {M : Type 1} → statement M
 raise-spec =

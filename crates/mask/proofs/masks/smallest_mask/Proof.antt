@@ -1,117 +1,114 @@
--- `smallest_mask` tries masks upward: each has its reasons, so no smaller one is of use. Its walk over the entries is at each index what is left of the walk.
-use Prim.Native.Nat.{ℕ, _-_, _^_, _≤_, _<_, min}
-use mathlib.Core.Path.{_≡_, refl, sym, ap, _∙_}
-use mathlib.Core.Bool.{Bool}
-use mathlib.Core.List.{List}
+-- `smallest_mask` tries masks upward: each has its reasons, so no smaller one is of use, and its walk stands before an entry up to which it meets all.
+use Prim.Native.Nat.{_-_, _^_, _<_, min}
+use mathlib.Core.Path.{_≡_, refl, sym, ap}
+use mathlib.Core.Bool.{false}
 use mathlib.Core.Option.{none, some}
 use native.Mathlib.Omega.{arith}
 use borrow.Author.Needs.{needs}
-use borrow.Author.Tests.{not-true, not-false}
-use lib.ListN.{length}
 use lib.Pow.{pow-pos}
+use Rattle.question.specs.Masks.{bit}
 use Rattle.mask.specs.Entries.{rowsOfEntries}
+use Rattle.mask.specs.Walks.{Stands}
 use Rattle.mask.specs.Trials.{IsOfNoUse, reasonAt, HasReasons, IsDecided}
 use Rattle.mask.specs.Masks.{smallestOf}
 use Rattle.mask.proofs.ReasonLaws.{reasons-start, reasons-below}
+use Rattle.mask.proofs.BitLaws.{raised-larger}
 use Rattle.mask.proofs.LeastLaws.{meetsAll, leastMask-one}
-use Rattle.mask.proofs.WalkLaws.{meetsFrom, walk-turn, walk-end, walk-decided}
+use Rattle.mask.proofs.NoteLaws.{notes-start}
+use Rattle.mask.proofs.WalkLaws.{stands-start, stands-raised, stands-end, walk-decided}
 use Rattle.mask.proofs.masks.smallest_mask.Statement.{statement}
 use Rattle.mask.proofs.masks.smallest_mask.Tie as tie
 
--- does the mask m meet the rows of the entries
-abbrev meets : List ℕ → ℕ → ℕ → Bool
-meets entries class m = meetsAll (rowsOfEntries entries) class m
+abbrev Inv-loop : tie.InvT-loop
+Inv-loop entries class sets bits m₀ why₀ first₀ i₀ m why first i = (m < 2 ^ bits) × HasReasons (meetsAll (rowsOfEntries entries) class) why m × Stands bits class entries m first i
 
-abbrev Inv-entries : tie.InvT-entries
-Inv-entries entries class sets bits m why i₀ i = (i ≤ length entries) × (meets entries class m ≡ meetsFrom class entries m i)
+abbrev μ-loop : tie.MeasureT-loop
+μ-loop entries class sets bits m₀ why₀ first₀ i₀ m why first i = 2 ^ bits - m
 
-abbrev μ-entries : tie.MeasureT-entries
-μ-entries entries class sets bits m why i₀ i = length entries - i
-
-abbrev Inv-masks : tie.InvT-masks
-Inv-masks entries class sets bits m₀ why₀ m why = (m < 2 ^ bits) × HasReasons (meets entries class) why m
-
-abbrev μ-masks : tie.MeasureT-masks
-μ-masks entries class sets bits m₀ why₀ m why = 2 ^ bits - m
-
--- the arguments, seen from the loop over masks
-abbrev given : tie.At-masks Inv-entries μ-entries Inv-masks μ-masks → tie.Start Inv-entries μ-entries Inv-masks μ-masks
+-- the arguments, seen from the loop
+abbrev given : tie.At-loop Inv-loop μ-loop → tie.Start Inv-loop μ-loop
 given l = l .before .before .before
 
 -- where an entry fails, the bits that are to blame decide
-decided : (c : tie.After-blame Inv-entries μ-entries Inv-masks μ-masks) →
-    let l = c .before .before .before .before .before .before .before in let a = given l .args in
-    IsDecided (meets (a .entries .now) (a .class)) (c .blame .result) (l .masks .m)
+decided : (c : tie.After-blame Inv-loop μ-loop) →
+    let l = c .before .before .before .before .before .before in let a = given l .args in
+    IsDecided (meetsAll (rowsOfEntries (a .entries .now)) (a .class)) (c .blame .result) (l .loop .m)
 decided c =
-    let walk = c .before .before .before .before .before .before in
-    let l = walk .before in
+    let w = c .before .before .before .before in
+    let l = w .before .before in
     let a = given l .args in
-    let met = c .before .before .before .meets in
-    rw (c .blame .ensures, c .before .row-in .ensures)
-    (walk-decided (a .class) (a .entries .now) (l .masks .m) (walk .entries .i) (c .before .before .before .before .before .if1 .left)
-    (sym (met .ensures) ∙ not-true (met .result) (c .before .before .if2 .taken)))
+    let here = c .before .before .before .if1 .left in
+    rw (c .blame .ensures, c .before .row-in .ensures) (walk-decided (a .class) (a .entries .now) (l .loop .m) (w .walk .result) here (w .walk .ensures .fails here))
 
-entries-again : tie.Need-entries-again Inv-entries μ-entries Inv-masks μ-masks
-entries-again c =
-    let walk = c .before .before .before .before in
-    let a = given (walk .before) .args in
-    let met = sym (c .before .meets .ensures) ∙ not-false (c .before .meets .result) (c .if2 .left) in
-    (search needs, walk .entries .inv .1 ∙ (rw met at (walk-turn (a .class) (a .entries .now) (walk .before .masks .m) (walk .entries .i) (c .before .before .before .if1 .left))))
+-- the bit that is raised is one of 32, and the mask lacks it
+lacks : (c : tie.After-known-told Inv-loop μ-loop) →
+    let l = c .before .before .before .before .before .before .before .before .before .before .before in let q = c .before .q .given .0 .0 in
+    (q < 32) × (bit (l .loop .m) q ≡ false)
+lacks c =
+    let t = rw (c .before .q .given .1) at (c .before .before .before .next-mask .ensures) in
+    (omega (arith, t .0, c .before .before .before .before .before .before .before .before .before .before .before .before .width .ensures), t .1)
 
-masks-less : tie.Need-masks-less Inv-entries μ-entries Inv-masks μ-masks
-masks-less c =
-    let t = rw (c .before .next .given .1) at (c .before .before .before .next-mask .ensures) in
-    omega (arith, t .0, t .1)
+-- the mask raised is larger, and has as many bits
+larger : (c : tie.After-raise Inv-loop μ-loop) → let l = c .before .before .before .before .before .before .before .before .before .before .before .before in
+    (l .loop .m < c .raise .result) × (c .raise .result < 2 ^ (l .before .width .result))
+larger c =
+    let l = c .before .before .before .before .before .before .before .before .before .before .before .before in
+    let t = rw (c .before .before .q .given .1) at (c .before .before .before .before .next-mask .ensures) in
+    rw (c .raise .ensures) (raised-larger (l .before .width .result) (l .loop .m) (c .before .before .q .given .0 .0) (t .0) (l .loop .inv .0) (t .1))
 
-masks-again : tie.Need-masks-again Inv-entries μ-entries Inv-masks μ-masks
-masks-again c =
-    let k = c .before .before .before .before .before in
-    let l = k .before .before .before .before .before .before .before in
+loop-again : tie.Need-loop-again Inv-loop μ-loop
+loop-again c =
+    let n = c .before .before .before .before .before .before in
+    let k = n .before .before in
+    let w = k .before .before .before .before in
+    let l = w .before .before in
     let a = given l .args in
-    let t = rw (c .before .next .given .1) at (c .before .before .before .next-mask .ensures) in
-    (t .1, t .2 (meets (a .entries .now) (a .class)) (l .masks .inv .1) (decided k))
+    let q = c .before .before .before .before .q .given .0 .0 in
+    let e = c .before .before .raise .ensures in
+    let t = rw (c .before .before .before .before .q .given .1) at (n .next-mask .ensures) in (
+      larger (c .before .before) .1,
+      rw e (t .2 (meetsAll (rowsOfEntries (a .entries .now)) (a .class)) (l .loop .inv .1) (decided k)),
+      rw e (stands-raised (a .class) (l .before .width .result) (a .entries .now) (l .loop .m) _ (w .walk .result) q (c .back-to .result) (w .walk .ensures .stands) (t .0) (t .1) (c .back-to .ensures .0) (c .back-to .ensures .1)),
+    )
 
-returns : tie.Need-returns Inv-entries μ-entries Inv-masks μ-masks
+returns : tie.Need-returns Inv-loop μ-loop
 returns c =
-    let l = c .before .before in
+    let w = c .before in
+    let l = w .before .before in
     let a = given l .args in
-    let m = l .masks .m in
-    let below = rw (l .before .width .ensures) at (l .masks .inv .0) in
-    let met = c .before .entries .inv .1 ∙ walk-end (a .class) (a .entries .now) m (c .before .entries .i) (c .if1 .taken) in
-    let no-smaller = reasons-below 2 (omega arith) (IsOfNoUse (meets (a .entries .now) (a .class))) (reasonAt (l .masks .why)) m (l .masks .inv .1 .1) in
+    let m = l .loop .m in
+    let below = rw (l .before .width .ensures) at (l .loop .inv .0) in
+    let met = stands-end (a .class) (l .before .width .result) (a .entries .now) m _ (w .walk .result) (w .walk .ensures .stands) (c .if1 .taken) in
+    let no-smaller = reasons-below 2 (omega arith) (IsOfNoUse (meetsAll (rowsOfEntries (a .entries .now)) (a .class))) (reasonAt (l .loop .why)) m (l .loop .inv .1 .1) in
     sym (ap smallestOf (leastMask-one (2 ^ min (a .sets) 32) (rowsOfEntries (a .entries .now)) (a .class) (some m) (below, met, no-smaller)))
 
-returns-2 : tie.Need-returns-2 Inv-entries μ-entries Inv-masks μ-masks
+returns-2 : tie.Need-returns-2 Inv-loop μ-loop
 returns-2 c =
     let k = c .before .before .before .before in
-    let l = k .before .before .before .before .before .before .before in
+    let l = k .before .before .before .before .before .before in
     let a = given l .args in
     let t = rw (c .enum-told .given .1, l .before .width .ensures) at (c .before .before .next-mask .ensures) in
-    sym (ap smallestOf (leastMask-one (2 ^ min (a .sets) 32) (rowsOfEntries (a .entries .now)) (a .class) none (t (meets (a .entries .now) (a .class)) (l .masks .inv .1) (decided k))))
+    sym (ap smallestOf (leastMask-one (2 ^ min (a .sets) 32) (rowsOfEntries (a .entries .now)) (a .class) none (t (meetsAll (rowsOfEntries (a .entries .now)) (a .class)) (l .loop .inv .1) (decided k))))
 
 pub smallest-mask-spec : {M : Type 1} → statement M
 smallest-mask-spec =
     tie.close
     (tie.spec
-    Inv-entries
-    μ-entries
-    Inv-masks
-    μ-masks
+    Inv-loop
+    μ-loop
     (λ c κs. search needs)
-    (λ c. (pow-pos (c .width .result), (refl, reasons-start 2 (omega arith) _ _)))
-    (λ c. (search needs, refl))
+    (λ c. (pow-pos (c .width .result), (refl, reasons-start 2 (omega arith) _ _), stands-start _ _ _ _ _ (notes-start 32 65535 _ (omega arith))))
+    (λ c κs. search needs)
     (λ c. search needs)
     (λ c. search needs)
     (λ c κs. search needs)
     (λ c κs. search needs)
     (λ c κs. search needs)
     (λ c. search needs)
-    (λ c. search needs)
-    entries-again
-    (λ c κs. (search needs, c .before .before .before .before .before .before .before .before .masks .inv .0))
-    (λ c. search needs)
-    masks-less
-    masks-again
+    (λ c κs. lacks c)
+    (λ c κs. (lacks (c .before .before) .0, c .before .before .before .before .before .before .before .before .before .before .before .walk .ensures .stands .notes .small _))
+    (λ c. omega (arith, larger (c .before .before) .0, larger (c .before .before) .1))
+    loop-again
     (λ c. search needs)
     returns
     returns-2)

@@ -18,19 +18,15 @@ Inv-loop m why₀ decided sets c₀ q₀ why c q = (q ≤ sets) × (why ≡ why�
 abbrev μ-loop : tie.MeasureT-loop
 μ-loop m why₀ decided sets c₀ q₀ why c q = sets - q
 
-raise-requires : tie.Need-raise-requires Inv-loop μ-loop
-raise-requires c κs = (search needs, sym (c .before .bit2 .ensures) ∙ not-true (c .before .bit2 .result) (c .if2 .taken))
-
 -- the reasons at entry are those of the loop
 returns : tie.Need-returns Inv-loop μ-loop
 returns c =
-    let k = c .before .before .before .before .before .before in
+    let k = c .before .before .before .before .before in
     let a = k .before .args in
     let l = k .loop in
-    let lacks = sym (c .before .before .bit2 .ensures) ∙ not-true (c .before .before .bit2 .result) (c .before .if2 .taken) in
-    subst (λ v. TrialIs (a .sets) (a .m) (a .decided) v (set (l .why) (l .q) (l .c)) (Next (c .raise .result))) (l .inv .1)
-    (rw (c .raise .ensures)
-    (trial-next (a .m) (l .why) (a .decided) (a .sets) (k .before .pre .1) (l .q) (l .c) (k .before .pre .0) (c .before .before .before .before .before .loop-test .taken) lacks (l .inv .2)))
+    let lacks = sym (c .before .bit2 .ensures) ∙ not-true (c .before .bit2 .result) (c .if2 .taken) in
+    subst (λ v. TrialIs (a .sets) (a .m) (a .decided) v (set (l .why) (l .q) (l .c)) (Next (l .q))) (l .inv .1)
+    (trial-next (a .m) (l .why) (a .decided) (a .sets) (k .before .pre .1) (l .q) (l .c) (k .before .pre .0) (c .before .before .before .before .loop-test .taken) lacks (l .inv .2))
 
 loop-again : tie.Need-loop-again Inv-loop μ-loop
 loop-again c =
@@ -63,7 +59,6 @@ next-mask-spec =
     (λ c κs. search needs)
     (λ c. search needs)
     (λ c. search needs)
-    raise-requires
     returns
     (λ c. search needs)
     (λ c. search needs)
