@@ -78,6 +78,13 @@ void heavy_file(size_t number, struct file *file)
         three_differ(file, 0);
         differ(file, 3, 4);
         break;
+    case 6: /* possible: rows ask for each element, and each witness has to be one of them */
+        for (uint8_t a = 0; a < 8; a++)
+            put_field(file, 0x23, 2, a, a, 0);
+        put_field(file, 0x22, 1, 8, 0, 0);
+        for (uint8_t x = 0; x < 4; x++)
+            differ(file, x, 8);
+        break;
     default: /* possible, with twelve classes */
         file->length = from_hex(examples[EXAMPLES - 1].question, file->bytes);
         return;

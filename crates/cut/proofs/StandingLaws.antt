@@ -34,7 +34,7 @@ use Rattle.cut.proofs.OtherLaws.{fewer-pass}
 
 -- a set of terms of the class j, which has the known ones of that class: what serves the class meets its rows
 module _ (known : ℕ → Bool) (l : List ℕ) (j class : ℕ) (inside : (c : ℕ) → T (bit class c) → T (inClass l j c)) (agree : (d : ℕ) → T (known d) → bit class d ≡ inClass l j d) where
-  row-meets : (m : ℕ) (r : Row Test) → T (otherKnown known (r .test)) → T (serves fits l j m r) → T (meetsRow class m r)
+  row-meets : (m : ℕ) (r : Row Test) → T (otherKnown known (r .term) (r .test)) → T (serves fits l j m r) → T (meetsRow class m r)
   row-meets m r o h = go (bit class (r .term)) (λ t. t)
     where
       served : (b : Bool) → T b → T (not b || metBy fits l j m r) → T (metBy fits l j m r)
@@ -43,13 +43,13 @@ module _ (known : ℕ → Bool) (l : List ℕ) (j class : ℕ) (inside : (c : �
 
       go : (b : Bool) → (T b → T (bit class (r .term))) → T (not b || fits m (bit class) (r .test))
       go false f = tt
-      go true f = fewer-pass m known (bit class) (inClass l j) inside agree (r .test) o (served (inClass l j (r .term)) (inside (r .term) (f tt)) h)
+      go true f = fewer-pass known (bit class) (inClass l j) inside agree (r .term) (f tt) m (r .test) o (served (inClass l j (r .term)) (inside (r .term) (f tt)) h)
 
   rows-meet : (m : ℕ) (rows : List (Row Test)) → T (othersKnown known rows) → T (allRows (serves fits l j m) rows) → T (allRows (meetsRow class m) rows)
   rows-meet m [] o h = tt
   rows-meet m (r ∷ rs) o h = and-both (meetsRow class m r) (allRows (meetsRow class m) rs)
-      (row-meets m r (and-left (otherKnown known (r .test)) (othersKnown known rs) o) (and-left (serves fits l j m r) (allRows (serves fits l j m) rs) h))
-      (rows-meet m rs (and-right (otherKnown known (r .test)) (othersKnown known rs) o) (and-right (serves fits l j m r) (allRows (serves fits l j m) rs) h))
+      (row-meets m r (and-left (otherKnown known (r .term) (r .test)) (othersKnown known rs) o) (and-left (serves fits l j m r) (allRows (serves fits l j m) rs) h))
+      (rows-meet m rs (and-right (otherKnown known (r .term) (r .test)) (othersKnown known rs) o) (and-right (serves fits l j m r) (allRows (serves fits l j m) rs) h))
 
   -- so where the set has no mask, the class has none
   class-cut : (bound : ℕ) (rows : List (Row Test)) → T (othersKnown known rows) → j < classes l → leastMask bound rows class ≡ none → modelOf fits bound rows l ≡ none

@@ -1,32 +1,41 @@
 // The other terms that rows ask for.
 use crate::groups::term_alone;
 use row::unpack;
-ghost use lib.Dec.{T};
+ghost use mathlib.Core.Bool.{_||_};
+ghost use Prim.Native.Nat.{ℕ, _<_};
+ghost use lib.Dec.{T, eqb};
 ghost use Rattle.question.specs.Masks.{bit};
-ghost use Rattle.row.specs.Rows.{rowOf};
-ghost use Rattle.mask.specs.Entries.{rowsOfEntries};
+ghost use Rattle.mask.specs.Entries.{testIn, termsIn, rowsOfEntries};
 ghost use Rattle.cut.specs.Others.{otherKnown, othersKnown};
 
-// A set with the term that the row asks for, if it asks for one. A kind above 9 is read as kind 0.
-fn other_asked(row: u32) -> u32
-    ensures { λ r. ⌜ T (otherKnown (bit r) (rowOf row .test)) ⌝ }
+// A set with d, if there is another term than d among those that ask for it.
+fn asked_besides(terms: u32, d: u8) -> u32
+    requires { ⌜ d < 32 ⌝ }
+    ensures { λ r. ⌜ ((c : ℕ) → T (bit terms c) → T (eqb d c || bit r d)) ⌝ }
 {
-    let p = unpack(row);
+    let own = term_alone(d as usize);
+    if terms == own { 0 } else { own }
+}
+
+// A set with the term that the rows of the entry ask for, if they ask for one. A kind above 9 is read as kind 0.
+fn other_asked(entry: u64) -> u32
+    ensures { λ r. ⌜ ((c : ℕ) → T (bit (termsIn entry) c) → T (otherKnown (bit r) c (testIn entry))) ⌝ }
+{
+    let terms = ((entry >> 32) % 65536) as u32;
+    let p = unpack((entry % 4294967296) as u32);
     let kind = p.kind;
-    let first = term_alone(p.first as usize);
-    let second = term_alone(p.second as usize);
     match kind {
-        0 => first,
+        0 => asked_besides(terms, p.first),
         1 => 0,
         2 => 0,
         3 => 0,
         4 => 0,
         5 => 0,
-        6 => second,
+        6 => asked_besides(terms, p.second),
         7 => 0,
         8 => 0,
         9 => 0,
-        _ => first,
+        _ => asked_besides(terms, p.first),
     }
 }
 
@@ -37,8 +46,7 @@ pub(crate) fn others_asked(entries: &[u64]) -> u32
     let mut others: u32 = 0;
     let mut i: usize = 0;
     while i < entries.len() {
-        let row = (entries[i] % 4294967296) as u32;
-        let one = other_asked(row);
+        let one = other_asked(entries[i]);
         others = others | one;
         i += 1;
     }

@@ -27,7 +27,6 @@ others-asked-spec =
     (λ c. (omega arith, enough-start (c .before .args .entries .now)))
     (λ c. search needs)
     (λ c. search needs)
-    (λ c. search needs)
     (λ c κs. search needs)
     (λ c. search needs)
     (λ c. search needs)
