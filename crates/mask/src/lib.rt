@@ -1,4 +1,4 @@
-// The smallest mask of a class of terms.
+// The smallest mask of a class of terms, and the lowest set that a row names, by which the search for it goes.
 mod bits;
 mod blames;
 mod entries;
@@ -8,5 +8,6 @@ mod tests;
 mod trials;
 mod walks;
 
+pub use lowest::lowest_set;
 pub use masks::Smallest;
 pub use masks::smallest_mask;

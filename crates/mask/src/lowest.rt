@@ -13,7 +13,7 @@ fn smaller(x: u8, y: u8) -> u8
 }
 
 // The lowest set that the row names, or 16 where it names none. The match is that of the row's test, so that both take one jump.
-pub(crate) fn lowest(row: u32) -> u8
+pub fn lowest_set(row: u32) -> u8
     ensures { λ r. ⌜ r ≡ lowestSet (rowOf row .test) ⌝ }
 {
     let p = unpack(row);

@@ -1,6 +1,6 @@
 // The walk of a mask over the entries: how far it comes, and from where the walk of the next mask has to start.
 use crate::entries::row_in;
-use crate::lowest::lowest;
+use crate::lowest::lowest_set;
 use crate::tests::is_asked;
 use crate::tests::meets;
 ghost use Prim.Native.Nat.{_^_, _≤_, _<_};
@@ -42,7 +42,7 @@ pub(crate) fn walk(
             return i;
         }
         if is_asked(entry, class) {
-            note(first, lowest(row_in(entry)), i, bits);
+            note(first, lowest_set(row_in(entry)), i, bits);
         }
         i += 1;
     }

@@ -1,10 +1,10 @@
--- `lowest` goes by the kind of the row: an arm for each, and the last for kinds that document 01 does not list, which name no set.
+-- `lowest_set` goes by the kind of the row: an arm for each, and the last for kinds that document 01 does not list, which name no set.
 use borrow.Author.Needs.{needs}
 use Rattle.row.specs.Rows.{rowOf}
 use Rattle.mask.specs.Lowest.{lowestSet}
 use Rattle.mask.proofs.RowLaws.{past-kinds}
-use Rattle.mask.proofs.lowest.lowest.Statement.{statement}
-use Rattle.mask.proofs.lowest.lowest.Tie as tie
+use Rattle.mask.proofs.lowest.lowest_set.Statement.{statement}
+use Rattle.mask.proofs.lowest.lowest_set.Tie as tie
 
 returns : tie.Need-returns
 unfolding rowOf lowestSet
@@ -52,8 +52,8 @@ returns-11 c =
     let p = c .before .unpack .result in
     rw (← (c .before .unpack .ensures), past-kinds (p .kind) (p .first) (p .second) (p .third) (c .match .rest))
 
-pub lowest-spec : {M : Type 1} → statement M
-lowest-spec =
+pub lowest-set-spec : {M : Type 1} → statement M
+lowest-set-spec =
     tie.close
     (tie.spec
     (λ c κs. search needs)
