@@ -1,13 +1,25 @@
--- The indices noted on a walk: what holds of them at the start, and after each note.
+-- Notes of entries: what holds of them at the start and after each note, and that a mask meets all entries before those that ask a bit which was raised or cleared.
 use Prim.Native.Nat.{ℕ, zero, suc, _+_, _^_, _≤_, _<_}
-use mathlib.Core.Path.{_≡_, refl, _∙_}
+use mathlib.Core.Path.{_≡_, refl, sym, ap, subst, _∙_}
 use mathlib.Core.Logic.{_≢_}
+use mathlib.Core.Bool.{false}
 use mathlib.Core.List.{List, [], _∷_}
 use native.Mathlib.Omega.{arith}
 use native.Mathlib.Decide.{ℕ-discrete, decLt}
+use lib.Bits.{bitAnd}
+use lib.Dec.{eqb}
 use lib.ListN.{length, getD, set, List·getD-eq-default}
 use lib.Seq.{getD-set-same, getD-set-other}
-use Rattle.mask.specs.Walks.{Notes, Noted}
+use Rattle.question.specs.Masks.{bit}
+use Rattle.mask.specs.Entries.{testIn, termsIn}
+use Rattle.mask.specs.Lowest.{lowestSet, SameFrom}
+use Rattle.mask.specs.Walks.{MeetsBefore}
+use Rattle.mask.specs.Notes.{EntryAsksFrom, Notes, Noted, NotesBefore}
+use Rattle.mask.specs.Reasons.{raised}
+use Rattle.mask.proofs.RaisedLaws.{raised-above}
+use Rattle.mask.proofs.BitLaws.{bit-clear}
+use Rattle.mask.proofs.EntryLaws.{entry-apart, entry-meets}
+use Rattle.mask.proofs.LowestLaws.{asks-from}
 
 -- so many copies of a number
 abbrev pub copies : ℕ → ℕ → List ℕ
@@ -88,3 +100,48 @@ module _ (x i : ℕ) (first : List ℕ) where
       falls y z l h (no a) (no b) (yes c) d = omega (arith, n .above z (omega arith), n .below y c, f .falling y z l h)
       falls y z l h (no a) (no b) (no c) (yes d) = omega (arith, n .above z (omega arith), past z (omega arith) h, n .here y (omega arith) d .0)
       falls y z l h (no a) (no b) (no c) (no d) = omega (arith, n .above z (omega arith), n .above y (omega arith), f .falling y z l h)
+
+-- a mask raised at a bit that it lacks has the same bits above
+raised-same : (m q : ℕ) → bit m q ≡ false → SameFrom (suc q) m (raised 2 q m)
+raised-same m q e x h = ap (λ d. eqb d 1) (sym (raised-above 2 q m (omega arith) (bit-clear m q e) x (omega arith)))
+
+module _ (bits class : ℕ) (entries : List ℕ) where
+  -- at the start no entry is noted
+  pub before-start : (first : List ℕ) → Notes bits first → NotesBefore bits class entries first 0
+  before-start first f = record { notes = f; asks = λ k q lt. absurd (omega arith) }
+
+  -- one more entry is noted, if it asks no bit up to q wherever it comes before what is noted for q
+  before-step : (first new : List ℕ) (i : ℕ) → NotesBefore bits class entries first i → ((y : ℕ) → getD new y 0 ≤ getD first y 0) → Notes bits new →
+      ((q : ℕ) → q < bits → i < getD new q 0 → EntryAsksFrom class (suc q) (getD entries i 0)) → NotesBefore bits class entries new (i + 1)
+  before-step first new i s kept f asks = record { notes = f; asks = λ k q lt hq b. at k q lt hq b (ℕ-discrete k i) }
+    where
+      at : (k q : ℕ) → k < i + 1 → q < bits → k < getD new q 0 → Dec (k ≡ i) → EntryAsksFrom class (suc q) (getD entries k 0)
+      at k q lt hq b (yes e) = subst (λ j. EntryAsksFrom class (suc q) (getD entries j 0)) (sym e) (asks q hq (omega arith))
+      at k q lt hq b (no ne) = s .asks k q (omega arith) hq (omega (arith, kept q))
+
+  -- an entry of other classes asks no bit
+  pub before-over : (first : List ℕ) (i : ℕ) → NotesBefore bits class entries first i → bitAnd (termsIn (getD entries i 0)) class ≡ 0 → NotesBefore bits class entries first (i + 1)
+  before-over first i s z = let e = getD entries i 0 in before-step first first i s (λ y. omega arith) (s .notes) (λ q hq b v w a. entry-apart class v e z ∙ sym (entry-apart class w e z))
+
+  -- one of the class is noted for the bits from the lowest on that its test asks
+  pub before-noted : (first new : List ℕ) (i : ℕ) → NotesBefore bits class entries first i → bitAnd (termsIn (getD entries i 0)) class ≢ 0 →
+      Noted bits (lowestSet (testIn (getD entries i 0))) i first new → NotesBefore bits class entries new (i + 1)
+  before-noted first new i s ne n = before-step first new i s (n .kept) (n .notes) (λ q hq b. asks q (above q hq b (decLt q low)))
+    where
+      e : ℕ
+      e = getD entries i 0
+
+      low : ℕ
+      low = lowestSet (testIn e)
+
+      above : (q : ℕ) → q < bits → i < getD new q 0 → Dec (q < low) → q < low
+      above q hq b (yes h) = h
+      above q hq b (no h) = absurd (omega (arith, n .here q (omega arith) hq))
+
+      asks : (q : ℕ) → q < low → EntryAsksFrom class (suc q) e
+      asks q h v w a = entry-meets class v e ne ∙ asks-from (testIn e) (bit class) v w (λ x l. a x (omega arith)) ∙ sym (entry-meets class w e ne)
+
+  -- after bit q was raised, the mask meets those entries before i that come before what is noted for q
+  pub meets-raised : (m : ℕ) (first : List ℕ) (i n q j : ℕ) → MeetsBefore class entries m i → NotesBefore bits class entries first n → i ≤ n → q < bits → bit m q ≡ false →
+      j ≤ i → j ≤ getD first q 0 → MeetsBefore class entries (raised 2 q m) j
+  meets-raised m first i n q j met s le hq e lo hi k lt = sym (s .asks k q (omega arith) hq (omega arith) m (raised 2 q m) (raised-same m q e)) ∙ met k (omega arith)

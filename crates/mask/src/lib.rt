@@ -4,6 +4,7 @@ mod blames;
 mod entries;
 mod lowest;
 mod masks;
+mod notes;
 mod tests;
 mod trials;
 mod walks;

@@ -12,7 +12,7 @@ fn smaller(x: u8, y: u8) -> u8
     if x < y { x } else { y }
 }
 
-// The lowest set that the row names, or 16 where it names none. The match is that of the row's test, so that both take one jump.
+// The lowest set that the row names, or 16 where it names none.
 pub fn lowest_set(row: u32) -> u8
     ensures { λ r. ⌜ r ≡ lowestSet (rowOf row .test) ⌝ }
 {

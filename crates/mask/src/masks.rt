@@ -2,9 +2,10 @@
 use crate::bits::raise;
 use crate::blames::blame;
 use crate::entries::row_in;
+use crate::notes::back_to;
+use crate::notes::note_up_to;
 use crate::trials::Trial;
 use crate::trials::next_mask;
-use crate::walks::back_to;
 use crate::walks::walk;
 ghost use mathlib.Core.Path.{_≡_};
 ghost use Prim.Native.Nat.{_^_, min};
@@ -25,7 +26,7 @@ fn width(sets: u8) -> u8
 }
 
 // The smallest mask of the class (a set of terms) that meets every row of the entries; a mask has at most 32 bits.
-// Masks are tried upward. The first entry that a mask fails says which bits are to blame, and masks that would fail for the same reason are left out. The next mask is put to the entries from the first on that asks a bit which has changed.
+// Masks are tried upward. The first entry that a mask fails says which bits are to blame, and masks that would fail for the same reason are left out. The next mask is put to the entries from the first on that asks a bit which has changed; for that, entries are noted once a mask has failed.
 pub fn smallest_mask(entries: &[u64], class: u32, sets: u8) -> Smallest
     ensures { λ r. ⌜ r ≡ smallestOf (leastMask (2 ^ min sets 32) (rowsOfEntries (now (entries .entry))) class) ⌝ }
 {
@@ -33,9 +34,10 @@ pub fn smallest_mask(entries: &[u64], class: u32, sets: u8) -> Smallest
     let mut m: u32 = 0;
     let mut why = [0u32; 32];
     let mut first = [u16::MAX; 32];
+    let mut noted: usize = 0;
     let mut i: usize = 0;
     loop {
-        i = walk(entries, class, m, i, &mut first, bits);
+        i = walk(entries, class, m, i);
         if i >= entries.len() {
             break Smallest::At(m);
         }
@@ -43,6 +45,7 @@ pub fn smallest_mask(entries: &[u64], class: u32, sets: u8) -> Smallest
         match next_mask(m, &mut why, decided, bits) {
             Trial::Next(q) => {
                 m = raise(m, q);
+                noted = note_up_to(entries, class, bits, &mut first, noted, i);
                 i = back_to(&first, q, i);
             }
             Trial::Over => {

@@ -4,8 +4,8 @@ use native.Mathlib.Omega.{arith}
 use borrow.Author.Needs.{needs}
 use lib.ListN.{getD}
 use Rattle.mask.proofs.NoteLaws.{Noting, noting-start, noting-turn, noting-end}
-use Rattle.mask.proofs.walks.note.Statement.{statement}
-use Rattle.mask.proofs.walks.note.Tie as tie
+use Rattle.mask.proofs.notes.note.Statement.{statement}
+use Rattle.mask.proofs.notes.note.Tie as tie
 
 abbrev Inv-loop : tie.InvT-loop
 Inv-loop first₀ low i bits q₀ first q = Noting low i first₀ q first
