@@ -12,14 +12,21 @@ use Rattle.theory.specs.Rules.{Row}
 use Rattle.theory.specs.FirstModels.{modelOf}
 use Rattle.theory.specs.Sets.{Test, fits}
 
--- the first `used` sets stand for classes of the arrangement l, whose numbers `at` gives. Each has terms of its class only, and of the known terms all that are in its class;
--- two sets stand for two classes, and every known term is in one of these
+-- the set is a part of the class j of the arrangement l: it has terms of that class only, and of the known terms all that are in it
+pub record Part (known : ℕ → Bool) (set : ℕ) (l : List ℕ) (j : ℕ) : Type 0 where
+  pub there : j < classes l
+  pub inside : (c : ℕ) → T (bit set c) → T (inClass l j c)
+  pub agree : (d : ℕ) → T (known d) → bit set d ≡ inClass l j d
+
+-- the first `used` sets stand for classes of l, whose numbers `at` gives: each is a part of its class, two sets stand for two classes, and every known term is in one of these
 pub record Stand (known : ℕ → Bool) (groups : List ℕ) (used : ℕ) (l : List ℕ) (at : ℕ → ℕ) : Type 0 where
-  pub there : (k : ℕ) → k < used → at k < classes l
+  pub part : (k : ℕ) → k < used → Part known (getD groups k 0) l (at k)
   pub apart : (i k : ℕ) → i < used → k < used → at i ≡ at k → i ≡ k
-  pub inside : (k : ℕ) → k < used → (c : ℕ) → T (bit (getD groups k 0) c) → T (inClass l (at k) c)
-  pub agree : (k : ℕ) → k < used → (d : ℕ) → T (known d) → bit (getD groups k 0) d ≡ inClass l (at k) d
   pub covered : (d : ℕ) → T (known d) → (k : ℕ) × (k < used) × (at k ≡ classOf l d)
+
+-- no arrangement of so many terms, of a class of which the set is a part, has a model
+abbrev pub NonePart : ℕ → List (Row Test) → (ℕ → Bool) → ℕ → ℕ → Type 0
+NonePart bound rows known set terms = (l : List ℕ) (j : ℕ) → length l ≡ terms → Part known set l j → modelOf fits bound rows l ≡ none
 
 -- no arrangement of so many terms, for classes of which the sets stand, has a model
 abbrev pub NoneStands : ℕ → List (Row Test) → (ℕ → Bool) → List ℕ → ℕ → ℕ → Type 0

@@ -19,10 +19,11 @@ use Rattle.mask.specs.Entries.{rowsOfEntries}
 use Rattle.cut.specs.Members.{members}
 use Rattle.cut.specs.Others.{before}
 use Rattle.cut.proofs.OtherLaws.{before-past}
+use Rattle.cut.proofs.PartLaws.{part-known}
 use Rattle.cut.proofs.StandingLaws.{stand-known, none-found}
 use Rattle.search.specs.Placings.{Placing, GroupsOf, found}
 use Rattle.search.specs.Memos.{classCount}
-use Rattle.search.specs.Fittings.{AreSets, NothingFits}
+use Rattle.search.specs.Fittings.{AreSets, NoPart, NothingFits}
 use Rattle.search.proofs.PlacingLaws.{placed-length}
 
 -- a term alone, and a set with one term more
@@ -51,8 +52,12 @@ module _ (groups : List ℕ) (used t : ℕ) (room : t < maxTerms) (are : AreSets
       go (no ne) = omega (arith, getD-set-other groups used k (2 ^ t) 0 ne, are k (omega arith))
 
 -- a term that is not one of the others may be passed over
-pub fits-past : (entries : List ℕ) (sets others t : ℕ) (groups : List ℕ) (used n : ℕ) → bit others t ≡ false → NothingFits entries sets others (t + 1) groups used n → NothingFits entries sets others t groups used n
-fits-past entries sets others t groups used n lacks nothing l at long here = nothing l at long (stand-known here (before others (t + 1)) (λ d. before-past others t d lacks))
+module _ (entries : List ℕ) (sets others t n : ℕ) (lacks : bit others t ≡ false) where
+  pub part-past : (set : ℕ) → NoPart entries sets others (t + 1) set n → NoPart entries sets others t set n
+  part-past set nothing l j long here = nothing l j long (part-known here (before others (t + 1)) (λ d. before-past others t d lacks))
+
+  pub fits-past : (groups : List ℕ) (used : ℕ) → NothingFits entries sets others (t + 1) groups used n → NothingFits entries sets others t groups used n
+  fits-past groups used nothing l at long here = nothing l at long (stand-known here (before others (t + 1)) (λ d. before-past others t d lacks))
 
 -- where nothing fits into the sets of the classes placed, nothing is found
 pub unfit-cut : {arrangement groups : List ℕ} {placed used : ℕ} → Placing arrangement placed used → GroupsOf arrangement placed groups → (entries : List ℕ) (sets others left : ℕ) →

@@ -7,7 +7,7 @@ use lib.Dec.{T}
 use lib.ListN.{getD}
 use Rattle.mask.specs.Entries.{rowsOfEntries}
 use Rattle.cut.specs.Others.{othersKnown, before}
-use Rattle.cut.specs.Standings.{NoneStands}
+use Rattle.cut.specs.Standings.{NonePart, NoneStands}
 use Rattle.search.specs.Memos.{maskOfClass, classCount}
 
 -- the first `used` numbers are sets of terms
@@ -21,6 +21,10 @@ SomeLacks entries sets groups used = (k : ℕ) × (k < used) × (maskOfClass ent
 -- the set `others` has the terms that rows ask for, and they are among so many
 abbrev pub OthersAre : List ℕ → ℕ → ℕ → Type 0
 OthersAre entries others terms = T (othersKnown (before others terms) (rowsOfEntries entries))
+
+-- where the set has the others before t, no arrangement of so many terms, of a class of which it is a part, has a model
+abbrev pub NoPart : List ℕ → ℕ → ℕ → ℕ → ℕ → ℕ → Type 0
+NoPart entries sets others t set terms = NonePart (2 ^ sets) (rowsOfEntries entries) (before others t) set terms
 
 -- where the sets have the others before t, no arrangement of so many terms, for classes of which they stand, has a model
 abbrev pub NothingFits : List ℕ → ℕ → ℕ → ℕ → List ℕ → ℕ → ℕ → Type 0

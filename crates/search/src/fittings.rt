@@ -11,7 +11,7 @@ ghost use mathlib.Core.Option.{none};
 ghost use Prim.Native.Nat.{_+_, _^_, _≤_, _<_};
 ghost use Rattle.question.specs.Limits.{maxSets, maxTerms};
 ghost use Rattle.search.specs.Memos.{maskOfClass, classCount, Memo};
-ghost use Rattle.search.specs.Fittings.{AreSets, SomeLacks, OthersAre, NothingFits};
+ghost use Rattle.search.specs.Fittings.{AreSets, SomeLacks, OthersAre, NoPart, NothingFits};
 
 // Has each of the sets a mask.
 fn each_has_mask(entries: &[u64], memo: &mut [u8], groups: [u32; 12], used: u8, sets: u8) -> bool
@@ -44,6 +44,36 @@ fn needs_a_set(entries: &[u64], memo: &mut [u8], others: u32, own: u32, sets: u8
         return false;
     }
     !has_mask(entries, memo, own, sets)
+}
+
+// Has the set a mask, as it is or with some of the others among the terms from `term` on, `left` of them.
+fn part_fits(
+    entries: &[u64],
+    memo: &mut [u8],
+    others: u32,
+    class: u32,
+    term: usize,
+    left: usize,
+    sets: u8,
+) -> bool
+    requires { ⌜ (sets ≤ maxSets) × (term + left ≤ maxTerms) ⌝ }
+    requires { ⌜ Memo (now entries) sets (now memo) ⌝ }
+    requires { ⌜ class < classCount ⌝ }
+    requires { ⌜ OthersAre (now entries) others (term + left) ⌝ }
+    ensures { λ r. ⌜ (r ≡ false → NoPart (now (entries .entry)) sets others term class (term + left)) ⌝ }
+    ensures { λ r. ⌜ Memo (now (entries .entry)) sets (now (memo .exit)) ⌝ }
+{
+    if left == 0 {
+        return has_mask(entries, memo, class, sets);
+    }
+    if part_fits(entries, memo, others, class, term + 1, left - 1, sets) {
+        return true;
+    }
+    if !has_term(others, term) {
+        return false;
+    }
+    let own = term_alone(term);
+    part_fits(entries, memo, others, class | own, term + 1, left - 1, sets)
 }
 
 // The terms from `term` on, `left` of them, but for the others, which are in sets.
@@ -153,23 +183,30 @@ pub(crate) fn all_fit(
             sets,
         );
     }
+    let own = term_alone(term);
     let mut k: u8 = 0;
     while k < used {
-        let next = with_term(groups, k, term);
-        if all_fit(
-            entries,
-            memo,
-            others,
-            next,
-            used,
-            from,
-            term + 1,
-            left - 1,
-            sets,
-        ) {
-            return true;
+        let class = groups[k as usize] | own;
+        if part_fits(entries, memo, others, class, term + 1, left - 1, sets) {
+            let next = with_term(groups, k, term);
+            if all_fit(
+                entries,
+                memo,
+                others,
+                next,
+                used,
+                from,
+                term + 1,
+                left - 1,
+                sets,
+            ) {
+                return true;
+            }
         }
         k += 1;
+    }
+    if !part_fits(entries, memo, others, own, term + 1, left - 1, sets) {
+        return false;
     }
     let next = with_set(groups, used, term);
     all_fit(

@@ -14,6 +14,7 @@ use lib.ListN.{length, getD}
 use Rattle.question.specs.Limits.{maxTerms}
 use Rattle.mask.specs.Entries.{rowsOfEntries}
 use Rattle.cut.specs.Others.{before}
+use Rattle.cut.proofs.PartLaws.{none-part}
 use Rattle.cut.proofs.TriedLaws.{Tried, tried-none, tried-stuck, tried-lacks, tried-alone}
 use Rattle.search.specs.Memos.{maskOfClass, Memo, classCount}
 use Rattle.search.specs.Fittings.{OthersAre, NothingFits}
@@ -154,14 +155,15 @@ module _ (t : ℕ) where
       ⊎-elim
       (λ w. (
         omega arith,
-        tried-stuck (2 ^ (a .sets)) rows known (a .t4) (a .used) (a .term + a .left) (a .term) (l .loop .k) (turn .loop-test .taken) (within turn) (l .loop .inv .1) known (λ d h. inl h) (w .1 .result) (w .1 .ensures)
+        tried-stuck (2 ^ (a .sets)) rows known (a .t4) (a .used) (a .term + a .left) (a .term) known (λ d h. inl h) (l .loop .k) (turn .loop-test .taken) (within turn) (l .loop .inv .1) (w .1 .result) (w .1 .ensures)
             (subst (λ n. NothingFits (a .entries .now) (a .sets) (a .others) n (w .1 .result) (a .used) n) (sym (all (first l))) (w .3 .ensures .0 (w .6 .left))),
         subst (Memo (a .entries .now) (a .sets)) (sym (w .7)) (w .3 .ensures .1),
       ))
       (λ w. (
         omega arith,
-        tried-lacks (2 ^ (a .sets)) rows known (a .t4) (a .used) (a .term + a .left) (a .term) (l .loop .k) (turn .loop-test .taken) (within turn) (l .loop .inv .1) (s .pre .1 .1 .1 .1)
-            (ap (λ n. maskOfClass (a .entries .now) (a .sets) (bitOr (getD (a .t4) (l .loop .k) 0) n)) (sym (own-is l)) ∙ not-there (maskOfClass (a .entries .now) (a .sets) _) (sym (asked .ensures .0) ∙ w .0 .left)),
+        tried-lacks (2 ^ (a .sets)) rows known (a .t4) (a .used) (a .term + a .left) (a .term) known (λ d h. inl h) (l .loop .k) (turn .loop-test .taken) (within turn) (l .loop .inv .1)
+            (none-part (2 ^ (a .sets)) rows known (bitOr (getD (a .t4) (l .loop .k) 0) (2 ^ (a .term))) (a .term + a .left) (s .pre .1 .1 .1 .1)
+            (ap (λ n. maskOfClass (a .entries .now) (a .sets) (bitOr (getD (a .t4) (l .loop .k) 0) n)) (sym (own-is l)) ∙ not-there (maskOfClass (a .entries .now) (a .sets) _) (sym (asked .ensures .0) ∙ w .0 .left))),
         subst (Memo (a .entries .now) (a .sets)) (sym (w .1)) (asked .ensures .1),
       ))
       (c .if3 .came)
@@ -171,9 +173,14 @@ module _ (t : ℕ) where
       let l = c .before in
       let s = start l in
       let a = s .args in
+      let known = before (a .others) (a .term + a .left) in
+      let rows = rowsOfEntries (a .entries .now) in
       let asked = l .before .before .before .before .needs-a-set in
-      let alone = ap (maskOfClass (a .entries .now) (a .sets)) (sym (own-is l)) ∙ asked .ensures .0 (not-false (asked .result) (l .before .if2 .left)) in
-      ((λ r. tried-alone (2 ^ (a .sets)) (rowsOfEntries (a .entries .now)) (before (a .others) (a .term + a .left)) (a .t4) (a .used) (a .term + a .left) (a .term) (l .loop .k) (c .loop-test .left) (omega (arith, some-left (first l))) (l .loop .inv .1) (s .pre .1 .1 .1 .1) alone), l .loop .inv .2)
+      let alone = ap (maskOfClass (a .entries .now) (a .sets)) (sym (own-is l)) ∙ asked .ensures .0 (not-false (asked .result) (l .before .if2 .left)) in (
+        λ r. tried-alone (2 ^ (a .sets)) rows known (a .t4) (a .used) (a .term + a .left) (a .term) known (λ d h. inl h) (l .loop .k) (c .loop-test .left) (omega (arith, some-left (first l))) (l .loop .inv .1)
+            (none-part (2 ^ (a .sets)) rows known (2 ^ (a .term)) (a .term + a .left) (s .pre .1 .1 .1 .1) alone),
+        l .loop .inv .2,
+      )
 
 pub +rest-fits-spec : {M : Type 1} → statement M
 +rest-fits-spec =
