@@ -13,7 +13,7 @@ use Rattle.question.specs.declared.checks.TableCheck.{TableCheck}
 use Rattle.question.specs.declared.checks.TableCheck.the-variants.{Accepted, Refused as RefusedTable}
 use Rattle.question.specs.Refusals.{refusal, bufferTooShort, badModel}
 use Rattle.question.specs.Questions.{termsOf}
-use Rattle.question.specs.Checks.{checked}
+use Rattle.question.specs.Checks.{checked, checkedOver}
 use Rattle.theory.specs.Answers.{maskBound}
 use Rattle.outcome.specs.Over.{over}
 use Rattle.field.proofs.Never.{never}
@@ -23,7 +23,7 @@ use Rattle.answer.specs.declared.writes.AnswerWritten.the-variants.{Byte
 use Rattle.answer.specs.Answers.{said}
 use Rattle.answer.specs.Bytes.{answerBytes}
 use Rattle.answer.specs.Checks.{isGood}
-use Rattle.answer.specs.Writes.{checkedThen, checkedOver, goodWritten, goodOver, written, writtenOver}
+use Rattle.answer.specs.Writes.{checkedThen, goodWritten, goodOver, written, writtenOver}
 
 refused-bytes : {A : Type 0} {r : Refusal} {n : ℕ} → Refused r ≡ Bytes n → A
 refused-bytes e = never cc

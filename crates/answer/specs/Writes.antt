@@ -10,7 +10,7 @@ use Rattle.question.specs.declared.checks.TableCheck.{TableCheck}
 use Rattle.question.specs.declared.checks.TableCheck.the-variants.{Accepted, Refused as RefusedTable}
 use Rattle.question.specs.Refusals.{refusal, bufferTooShort, badModel}
 use Rattle.question.specs.Questions.{termsOf}
-use Rattle.question.specs.Checks.{checked}
+use Rattle.question.specs.Checks.{checked, checkedOver}
 use Rattle.theory.specs.Solutions.{Solution}
 use Rattle.theory.specs.Answers.{maskBound}
 use Rattle.outcome.specs.Over.{fittedOver}
@@ -36,10 +36,6 @@ goodOver bound s old = cond (isGood bound s) (fittedOver (fileOf s) old) old
 abbrev pub checkedThen : TableCheck → AnswerWritten → AnswerWritten
 checkedThen Accepted answer = answer
 checkedThen (RefusedTable r) answer = Refused r
-
-abbrev pub checkedOver : TableCheck → List ℕ → List ℕ → List ℕ
-checkedOver Accepted new old = new
-checkedOver (RefusedTable r) new old = old
 
 -- what the writer answers to a question with an answer, where there is room for so many bytes
 unfoldable pub written : Question → Answer → ℕ → AnswerWritten

@@ -1,9 +1,9 @@
 -- Sets of terms that are parts of classes: where one has no mask there is no model, and which parts there are with one term more.
-use Prim.Native.Nat.{ℕ, _^_, _<_}
+use Prim.Native.Nat.{ℕ, _^_}
 use mathlib.Core.Path.{_≡_, sym, subst, _∙_}
 use mathlib.Core.Bool.{Bool, true, false, not, _||_}
 use mathlib.Core.List.{List, [], _∷_}
-use mathlib.Core.Logic.{_≢_, _⊎_, inl, inr, ⊎-elim}
+use mathlib.Core.Logic.{_≢_, _⊎_, ⊎-elim}
 use mathlib.Core.Option.{none}
 use native.Mathlib.Decide.{ℕ-discrete}
 use lib.Bits.{bitOr}

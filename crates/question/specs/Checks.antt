@@ -46,3 +46,8 @@ pub record IsAccepted (q : Question) : Type 0 where
   pub few-statements : q .count ≤ maxStatements
   pub all-declared : AllDeclared (q .elements) (q .sets) (statements q)
   pub few-terms : termsOf q ≤ maxTerms
+
+-- a lent buffer where the table is accepted; a refused call leaves it as it was
+abbrev pub checkedOver : TableCheck → List ℕ → List ℕ → List ℕ
+checkedOver Accepted new old = new
+checkedOver (Refused r) new old = old

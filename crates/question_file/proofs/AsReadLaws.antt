@@ -4,7 +4,7 @@ use mathlib.Core.Path.{_≡_, refl, sym, ap, ap₂, _∙_}
 use mathlib.Core.List.{List, [], _∷_, _++_, map, map-append, append-assoc}
 use native.Mathlib.Omega.{arith}
 use borrow.Author.Tests.{le-ltb}
-use lib.ListN.{length, set, replicate, length-map, length-append, length-replicate}
+use lib.ListN.{length, set, replicate, length-map, length-append}
 use lib.Seq.{set-at, take-at}
 use Rattle.question.specs.declared.statements.Statement.{Statement}
 use Rattle.question.specs.declared.questions.Record.{Record}
@@ -61,9 +61,6 @@ module _ (E S : ℕ) (ss : List Statement) where
     pub as-read-terms : termsOf (asRead E S ss) ≡ E + witnesses ss
     unfolding termsOf
     as-read-terms = ap (λ l. E + witnesses l) as-read-statements
-
-    pub as-read-long : length (asRead E S ss .table) ≡ maxStatements
-    as-read-long = simp (length-append, length-map, length-replicate) (omega arith)
 
 -- E, S and statements that make an accepted question
 pub record Sound (E S : ℕ) (ss : List Statement) : Type 0 where

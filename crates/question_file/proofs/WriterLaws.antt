@@ -15,12 +15,12 @@ use Rattle.question.specs.declared.checks.TableCheck.{TableCheck}
 use Rattle.question.specs.declared.checks.TableCheck.the-variants.{Accepted, Refused as RefusedTable}
 use Rattle.question.specs.Refusals.{refusal, bufferTooShort}
 use Rattle.question.specs.Questions.{statements}
-use Rattle.question.specs.Checks.{checked}
+use Rattle.question.specs.Checks.{checked, checkedOver}
 use Rattle.outcome.specs.Over.{over}
 use Rattle.field.proofs.Never.{never}
 use Rattle.question_file.specs.declared.writes.Written.the-variants.{Bytes, Refused}
 use Rattle.question_file.specs.Bytes.{statementBytes, statementsBytes, questionBytes}
-use Rattle.question_file.specs.Writes.{checkedThen, checkedOver, written, writtenOver}
+use Rattle.question_file.specs.Writes.{checkedThen, written, writtenOver}
 use Rattle.question_file.proofs.BodyLaws.{field}
 use Rattle.question_file.proofs.StatementBytesLaws.{question-length}
 use Rattle.question_file.proofs.AsReadLaws.{checked-sound}

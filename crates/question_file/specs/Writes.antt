@@ -8,7 +8,7 @@ use Rattle.question.specs.declared.questions.Question.{Question}
 use Rattle.question.specs.declared.checks.TableCheck.{TableCheck}
 use Rattle.question.specs.declared.checks.TableCheck.the-variants.{Accepted, Refused as RefusedTable}
 use Rattle.question.specs.Refusals.{refusal, bufferTooShort}
-use Rattle.question.specs.Checks.{checked}
+use Rattle.question.specs.Checks.{checked, checkedOver}
 use Rattle.outcome.specs.Over.{fittedOver}
 use Rattle.question_file.specs.declared.writes.Written.{Written}
 use Rattle.question_file.specs.declared.writes.Written.the-variants.{Bytes, Refused}
@@ -22,11 +22,6 @@ fitted bytes room = cond (ltb room (length bytes)) (Refused (refusal bufferTooSh
 abbrev pub checkedThen : TableCheck → Written → Written
 checkedThen Accepted answer = answer
 checkedThen (RefusedTable r) answer = Refused r
-
--- which leave the buffer as it was
-abbrev pub checkedOver : TableCheck → List ℕ → List ℕ → List ℕ
-checkedOver Accepted new old = new
-checkedOver (RefusedTable r) new old = old
 
 -- the answer of the writer to a question, where the buffer has so many bytes
 unfoldable pub written : Question → ℕ → Written

@@ -1,5 +1,5 @@
 -- What the search remembers of the classes that it has tried: a byte for each question "has this class a mask".
-use Prim.Native.Nat.{ℕ, _^_, _<_}
+use Prim.Native.Nat.{ℕ, _^_}
 use mathlib.Core.Path.{_≡_}
 use mathlib.Core.Bool.{Bool, true, false}
 use mathlib.Core.List.{List}

@@ -8,7 +8,7 @@ use crate::memos::has_mask;
 ghost use mathlib.Core.Path.{_≡_};
 ghost use mathlib.Core.Bool.{true, false};
 ghost use mathlib.Core.Option.{none};
-ghost use Prim.Native.Nat.{_+_, _^_, _≤_, _<_};
+ghost use Prim.Native.Nat.{_+_, _≤_, _<_};
 ghost use Rattle.question.specs.Limits.{maxSets, maxTerms};
 ghost use Rattle.search.specs.Memos.{maskOfClass, classCount, Memo};
 ghost use Rattle.search.specs.Fittings.{AreSets, SomeLacks, OthersAre, NoPart, NothingFits};

@@ -5,12 +5,12 @@ use native.Mathlib.Omega.{arith}
 use borrow.Author.Needs.{needs}
 use lib.ListN.{length}
 use Rattle.question.specs.declared.checks.TableCheck.the-variants.{Accepted}
-use Rattle.question.specs.Checks.{checked}
+use Rattle.question.specs.Checks.{checked, checkedOver}
 use Rattle.question.specs.Questions.{termsOf}
 use Rattle.question.proofs.AcceptedLaws.{accepted}
 use Rattle.theory.specs.Answers.{maskBound}
 use Rattle.answer.specs.Answers.{said}
-use Rattle.answer.specs.Writes.{goodWritten, goodOver, checkedThen, checkedOver, written, writtenOver}
+use Rattle.answer.specs.Writes.{goodWritten, goodOver, checkedThen, written, writtenOver}
 use Rattle.answer.proofs.writes.write_answer.Statement.{statement}
 use Rattle.answer.proofs.writes.write_answer.Tie as tie
 

@@ -5,7 +5,8 @@ use borrow.Author.Needs.{needs}
 use lib.ListN.{length}
 use Rattle.question_file.specs.Bytes.{questionBytes}
 use Rattle.outcome.specs.Over.{fittedOver}
-use Rattle.question_file.specs.Writes.{fitted, checkedThen, checkedOver, written, writtenOver}
+use Rattle.question.specs.Checks.{checkedOver}
+use Rattle.question_file.specs.Writes.{fitted, checkedThen, written, writtenOver}
 use Rattle.question_file.proofs.writes.write_question.Statement.{statement}
 use Rattle.question_file.proofs.writes.write_question.Tie as tie
 

@@ -1,7 +1,7 @@
 -- `rest_fits` is a recursion over the terms left, whose number falls. Its loop stands before the set k:
 -- with the term in one of the sets before, nothing fits, and the memo is right.
 use Prim.Native.Nat.{ℕ, _+_, _-_, _^_, _≤_, _<_}
-use mathlib.Core.Path.{_≡_, refl, sym, ap, subst, _∙_}
+use mathlib.Core.Path.{_≡_, sym, ap, subst, _∙_}
 use mathlib.Core.Bool.{true≢false}
 use mathlib.Core.Logic.{inl, ⊎-elim}
 use native.Mathlib.Omega.{arith}
