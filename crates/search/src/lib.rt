@@ -8,6 +8,7 @@ mod models;
 mod others;
 mod placings;
 mod renamings;
+mod rests;
 mod searches;
 
 pub use answers::SearchAnswer;

@@ -25,7 +25,7 @@ use Rattle.search.proofs.groups.term_alone.Reads as term-alone
 use Rattle.search.proofs.groups.with_set.Reads as with-set
 use Rattle.search.proofs.groups.with_term.Reads as with-term
 use Rattle.search.proofs.fittings.part_fits.Reads as part-fits
-use Rattle.search.proofs.fittings.settled_fits.Reads as settled-fits
+use Rattle.search.proofs.rests.settled_fits.Reads as settled-fits
 use Rattle.search.proofs.fittings.all_fit.Reads as all-fit
 use Rattle.search.proofs.fittings.all_fit.Kinds as kinds
 use Rattle.search.proofs.fittings.+all_fit.Lts-all_fit as lts

@@ -5,8 +5,8 @@ use borrow.Author.Needs.{needs}
 use borrow.Author.Tests.{not-true}
 use Rattle.search.specs.Memos.{maskOfClass}
 use Rattle.search.proofs.MemoLaws.{not-there}
-use Rattle.search.proofs.fittings.needs_a_set.Statement.{statement}
-use Rattle.search.proofs.fittings.needs_a_set.Tie as tie
+use Rattle.search.proofs.rests.needs_a_set.Statement.{statement}
+use Rattle.search.proofs.rests.needs_a_set.Tie as tie
 
 returns-2 : tie.Need-returns-2
 returns-2 c =

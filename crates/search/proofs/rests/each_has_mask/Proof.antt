@@ -8,8 +8,8 @@ use borrow.Author.Tests.{not-true}
 use Rattle.question.specs.Limits.{maxTerms}
 use Rattle.search.specs.Memos.{maskOfClass, Memo}
 use Rattle.search.proofs.MemoLaws.{not-there}
-use Rattle.search.proofs.fittings.each_has_mask.Statement.{statement}
-use Rattle.search.proofs.fittings.each_has_mask.Tie as tie
+use Rattle.search.proofs.rests.each_has_mask.Statement.{statement}
+use Rattle.search.proofs.rests.each_has_mask.Tie as tie
 
 abbrev Inv-loop : tie.InvT-loop
 Inv-loop entries memo₀ used sets groups k₀ memo k = (k ≤ used) × Memo entries sets memo

@@ -4,8 +4,8 @@ use borrow.Author.Needs.{needs}
 use borrow.Author.Tests.{not-true}
 use Rattle.mask.specs.Entries.{rowsOfEntries}
 use Rattle.cut.proofs.PartLaws.{part-cut}
-use Rattle.search.proofs.fittings.settled_fits.Statement.{statement}
-use Rattle.search.proofs.fittings.settled_fits.Tie as tie
+use Rattle.search.proofs.rests.settled_fits.Statement.{statement}
+use Rattle.search.proofs.rests.settled_fits.Tie as tie
 
 returns : tie.Need-returns
 returns c =

@@ -24,12 +24,12 @@ use Rattle.search.proofs.FitLaws.{alone-small, joined-small, sets-joine
 use Rattle.search.proofs.groups.term_alone.Reads as term-alone
 use Rattle.search.proofs.groups.with_term.Reads as with-term
 use Rattle.search.proofs.memos.has_mask.Reads as has-mask
-use Rattle.search.proofs.fittings.needs_a_set.Reads as needs-a-set
-use Rattle.search.proofs.fittings.rest_fits.Reads as rest-fits
-use Rattle.search.proofs.fittings.rest_fits.Kinds as kinds
-use Rattle.search.proofs.fittings.+rest_fits.Lts-rest_fits as lts
-use Rattle.search.proofs.fittings.+rest_fits.{statement}
-use Rattle.search.proofs.fittings.+rest_fits.Tie.{close}
+use Rattle.search.proofs.rests.needs_a_set.Reads as needs-a-set
+use Rattle.search.proofs.rests.rest_fits.Reads as rest-fits
+use Rattle.search.proofs.rests.rest_fits.Kinds as kinds
+use Rattle.search.proofs.rests.+rest_fits.Lts-rest_fits as lts
+use Rattle.search.proofs.rests.+rest_fits.{statement}
+use Rattle.search.proofs.rests.+rest_fits.Tie.{close}
 
 -- how many terms are left
 abbrev μ-rest-fits : Measures 2 kinds.ps ℕ
