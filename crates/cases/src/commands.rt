@@ -233,7 +233,7 @@ fn run_groups(letter: u8, bytes: &[u8], first: usize, second: usize, total: usiz
     );
 }
 
-pub fn run_line(line: &[u8]) {
+pub(crate) fn run_line(line: &[u8]) {
     if line.len() == 0 {
         outcomes::text(b"\n");
         return;

@@ -39,7 +39,7 @@ fn byte(high: u8, low: u8) -> u8 {
 }
 
 // The bytes of the group that starts at `from`, into a lent buffer from `at` on; what doesn't fit is left out.
-pub fn decode(line: &[u8], from: usize, at: usize, bytes: &mut [u8]) -> Decoded
+pub(crate) fn decode(line: &[u8], from: usize, at: usize, bytes: &mut [u8]) -> Decoded
     requires { ⌜ at ≤ length (now bytes) ⌝ }
     ensures { λ r. ⌜ (at ≤ r .total) × (r .total ≤ length (now (bytes .entry))) × (length (now (bytes .exit)) ≡ length (now (bytes .entry))) ⌝ }
 {

@@ -40,7 +40,7 @@ fn masks(memberships: &[u8]) -> [u32; 12] {
 }
 
 // n and the elements, then the masks.
-pub fn model(points: &[u8], memberships: &[u8]) -> Model {
+pub(crate) fn model(points: &[u8], memberships: &[u8]) -> Model {
     Model {
         size: byte_at(points, 0) as usize,
         elements: elements(points),
@@ -66,7 +66,7 @@ fn verdict(byte: u8) -> Verdict {
 }
 
 // A verdict and the class numbers, then the masks.
-pub fn answer(numbers: &[u8], memberships: &[u8]) -> Answer {
+pub(crate) fn answer(numbers: &[u8], memberships: &[u8]) -> Answer {
     Answer {
         verdict: verdict(byte_at(numbers, 0)),
         arrangement: class_numbers(numbers),
@@ -75,7 +75,7 @@ pub fn answer(numbers: &[u8], memberships: &[u8]) -> Answer {
 }
 
 // The model that the search found: a name's element is its class.
-pub fn model_of(answer: SearchAnswer) -> Model {
+pub(crate) fn model_of(answer: SearchAnswer) -> Model {
     let arrangement = answer.arrangement;
     let mut elements = [0u8; 8];
     let mut i: usize = 0;
@@ -92,7 +92,7 @@ pub fn model_of(answer: SearchAnswer) -> Model {
 }
 
 // The rows that some bytes say, and how many they are; what doesn't fit is left out.
-pub fn fill_rows(bytes: &[u8], rows: &mut [u32]) -> usize
+pub(crate) fn fill_rows(bytes: &[u8], rows: &mut [u32]) -> usize
     ensures { λ r. ⌜ (r ≤ length (now (rows .entry))) × (length (now (rows .exit)) ≡ length (now (rows .entry))) ⌝ }
 {
     let mut i: usize = 0;

@@ -7,15 +7,15 @@ use question::TableCheck;
 use search::SearchAnswer;
 use search::Verdict;
 
-pub fn text(words: &[u8]) {
+pub(crate) fn text(words: &[u8]) {
     io::write_all(STDOUT_FILENO, words);
 }
 
-pub fn number(n: usize) {
+pub(crate) fn number(n: usize) {
     io::print_decimal(STDOUT_FILENO, n as u64);
 }
 
-pub fn refusal(r: Refusal) {
+pub(crate) fn refusal(r: Refusal) {
     let n = r.number;
     let place = r.place;
     text(b"refused ");
@@ -24,14 +24,14 @@ pub fn refusal(r: Refusal) {
     number(place);
 }
 
-pub fn check(c: TableCheck) {
+pub(crate) fn check(c: TableCheck) {
     match c {
         TableCheck::Accepted => text(b"accepted"),
         TableCheck::Refused(r) => refusal(r),
     }
 }
 
-pub fn judgement(j: Judgement) {
+pub(crate) fn judgement(j: Judgement) {
     match j {
         Judgement::Yes => text(b"yes"),
         Judgement::No(i) => {
@@ -43,7 +43,7 @@ pub fn judgement(j: Judgement) {
 }
 
 // Rows in six hexadecimal digits.
-pub fn rows(rows: &[u32]) {
+pub(crate) fn rows(rows: &[u32]) {
     number(rows.len());
     let mut i: usize = 0;
     while i < rows.len() {
@@ -54,7 +54,7 @@ pub fn rows(rows: &[u32]) {
 }
 
 // The bytes of a file in two hexadecimal digits each.
-pub fn bytes(file: &[u8]) {
+pub(crate) fn bytes(file: &[u8]) {
     let mut i: usize = 0;
     while i < file.len() {
         text(b" ");
@@ -64,7 +64,7 @@ pub fn bytes(file: &[u8]) {
 }
 
 // The bytes that a writer put into a buffer.
-pub fn written(w: AnswerWritten, file: &[u8]) {
+pub(crate) fn written(w: AnswerWritten, file: &[u8]) {
     match w {
         AnswerWritten::Bytes(count) => {
             if count <= file.len() {
@@ -76,7 +76,7 @@ pub fn written(w: AnswerWritten, file: &[u8]) {
     }
 }
 
-pub fn hexadecimal(n: u64) {
+pub(crate) fn hexadecimal(n: u64) {
     io::print_hex(STDOUT_FILENO, n, 6);
 }
 
@@ -104,7 +104,7 @@ fn class_masks(masks: [u32; 12], classes: usize) {
     }
 }
 
-pub fn search_answer(answer: SearchAnswer, terms: usize) {
+pub(crate) fn search_answer(answer: SearchAnswer, terms: usize) {
     let verdict = answer.verdict;
     let arrangement = answer.arrangement;
     let masks = answer.masks;

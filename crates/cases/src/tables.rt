@@ -21,11 +21,11 @@ fn statement(tag: u8, a: u8, b: u8, c: u8) -> Statement {
     }
 }
 
-pub fn byte_at(bytes: &[u8], at: usize) -> u8 {
+pub(crate) fn byte_at(bytes: &[u8], at: usize) -> u8 {
     if at < bytes.len() { bytes[at] } else { 0 }
 }
 
-pub fn table(bytes: &[u8]) -> Question {
+pub(crate) fn table(bytes: &[u8]) -> Question {
     let mut q = Question::empty();
     q.elements = byte_at(bytes, 0);
     q.sets = byte_at(bytes, 1);

@@ -29,7 +29,7 @@ fn is_in(v: Assignment, a: ElementName, x: SetName) -> bool {
     part(v, x) & alone(element(v, a)) != 0
 }
 
-pub fn holds(v: Assignment, s: Statement) -> bool {
+pub(crate) fn holds(v: Assignment, s: Statement) -> bool {
     match s {
         Statement::ElementsEqual(a, b) => element(v, a) == element(v, b),
         Statement::ElementsDiffer(a, b) => element(v, a) != element(v, b),
@@ -46,7 +46,7 @@ pub fn holds(v: Assignment, s: Statement) -> bool {
 }
 
 // The assignment with another part for the set name x.
-pub fn with_part(v: Assignment, x: usize, p: u16) -> Assignment {
+pub(crate) fn with_part(v: Assignment, x: usize, p: u16) -> Assignment {
     let mut parts = v.parts;
     if x < 16 {
         parts[x] = p;
@@ -59,7 +59,7 @@ pub fn with_part(v: Assignment, x: usize, p: u16) -> Assignment {
 }
 
 // The set names of a statement: bit x for set name x.
-pub fn sets_of(s: Statement) -> u16 {
+pub(crate) fn sets_of(s: Statement) -> u16 {
     match s {
         Statement::ElementsEqual(_, _) => 0,
         Statement::ElementsDiffer(_, _) => 0,
@@ -76,7 +76,7 @@ pub fn sets_of(s: Statement) -> u16 {
 }
 
 // Does each statement hold whose set names all have their part already.
-pub fn hold_so_far(q: Question, v: Assignment, known: u16) -> bool {
+pub(crate) fn hold_so_far(q: Question, v: Assignment, known: u16) -> bool {
     let count = q.count;
     let mut i: usize = 0;
     while i < 64 {

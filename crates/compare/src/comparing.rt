@@ -22,7 +22,7 @@ pub struct Tally {
 }
 
 impl Tally {
-    pub fn new() -> Tally {
+    pub(crate) fn new() -> Tally {
         Tally {
             questions: 0,
             possible: 0,
@@ -39,7 +39,7 @@ fn one_more(n: u64) -> u64 {
 }
 
 // A difference is counted, and the first one is printed.
-pub fn differ(t: Tally, q: Question) -> Tally {
+pub(crate) fn differ(t: Tally, q: Question) -> Tally {
     let mut counted = t;
     if t.differences == 0 {
         printing::difference(q);
@@ -57,7 +57,7 @@ fn is_possible(answer: Answer) -> bool {
 }
 
 // The library's decision, held to whether the question is possible; where it shows a model, that is tested.
-pub fn hold(t: Tally, q: Question, possible: bool) -> Tally {
+pub(crate) fn hold(t: Tally, q: Question, possible: bool) -> Tally {
     let decision = decide(q);
     let outcome = decision.outcome;
     let answer = decision.answer;
@@ -81,7 +81,7 @@ pub fn hold(t: Tally, q: Question, possible: bool) -> Tally {
 }
 
 // One more question, possible or not.
-pub fn counted(t: Tally, possible: bool) -> Tally {
+pub(crate) fn counted(t: Tally, possible: bool) -> Tally {
     let mut counted = t;
     counted.questions = one_more(t.questions);
     if possible {
@@ -94,7 +94,7 @@ pub fn counted(t: Tally, possible: bool) -> Tally {
 
 // Both solvers on the question with each pattern of its element names stated; if there are several, the question itself
 // is possible exactly if it is with one of them.
-pub fn compare(t: Tally, q: Question) -> Tally {
+pub(crate) fn compare(t: Tally, q: Question) -> Tally {
     let all = patterns(q.elements);
     let mut now = t;
     let mut possible = false;

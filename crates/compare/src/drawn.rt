@@ -96,7 +96,7 @@ fn draw(state: u64) -> Drawn {
     }
 }
 
-pub fn drawn_questions() -> Tally {
+pub(crate) fn drawn_questions() -> Tally {
     let mut counted = Tally::new();
     let mut state = SEED;
     let mut i: u64 = 0;

@@ -88,7 +88,7 @@ fn is_met(q: Question, m: Model) -> bool {
 }
 
 // Is what the answer shows a model of the question, by both tests.
-pub fn is_right(q: Question, answer: Answer) -> bool {
+pub(crate) fn is_right(q: Question, answer: Answer) -> bool {
     let m = model_of(q, answer);
     is_judged(q, m) & is_met(q, m)
 }

@@ -68,7 +68,7 @@ fn verdict(t: Tally, letter: u8, bytes: &[u8], total: usize) -> Tally
     }
 }
 
-pub fn verdicts(input: &[u8]) -> Tally {
+pub(crate) fn verdicts(input: &[u8]) -> Tally {
     let mut t = Tally::new();
     let mut at: usize = 0;
     while at < input.len() {

@@ -5,7 +5,7 @@ use question::Record;
 use question::Statement;
 
 // How many patterns so many names have.
-pub fn patterns(elements: u8) -> usize {
+pub(crate) fn patterns(elements: u8) -> usize {
     match elements {
         0 => 1,
         1 => 1,
@@ -15,7 +15,7 @@ pub fn patterns(elements: u8) -> usize {
 }
 
 // A pattern as a domain element for each name: two names are equal exactly if theirs is the same. Two names have the first two.
-pub fn pattern(p: usize) -> [u8; 8] {
+pub(crate) fn pattern(p: usize) -> [u8; 8] {
     match p {
         0 => [0, 0, 0, 0, 0, 0, 0, 0],
         1 => [0, 1, 0, 0, 0, 0, 0, 0],
@@ -26,7 +26,7 @@ pub fn pattern(p: usize) -> [u8; 8] {
 }
 
 // How many domain elements so many names stand for.
-pub fn different(elements: u8, p: usize) -> u8 {
+pub(crate) fn different(elements: u8, p: usize) -> u8 {
     if elements == 0 {
         return 0;
     }
@@ -60,7 +60,7 @@ fn with_pair(q: Question, same: bool, a: u8, b: u8) -> Question {
 }
 
 // The question with a pattern stated, pair by pair.
-pub fn stated(q: Question, p: usize) -> Question {
+pub(crate) fn stated(q: Question, p: usize) -> Question {
     let at = pattern(p);
     let first = with_pair(q, at[0] == at[1], 0, 1);
     let second = with_pair(first, at[0] == at[2], 0, 2);

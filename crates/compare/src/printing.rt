@@ -5,7 +5,7 @@ use question::Question;
 use question_file::Written;
 use question_file::write_question;
 
-pub fn text(words: &[u8]) {
+pub(crate) fn text(words: &[u8]) {
     io::write_all(STDOUT_FILENO, words);
 }
 
@@ -19,7 +19,7 @@ fn bytes(file: &[u8]) {
 }
 
 // The question as a question file, in hexadecimal.
-pub fn difference(q: Question) {
+pub(crate) fn difference(q: Question) {
     text(b"the two differ on");
     let mut file = io::buffer();
     match write_question(q, &mut file) {
@@ -38,7 +38,7 @@ fn number(words: &[u8], n: u64) {
     io::print_decimal(STDOUT_FILENO, n);
 }
 
-pub fn tally(t: Tally) {
+pub(crate) fn tally(t: Tally) {
     number(b"questions ", t.questions);
     number(b", possible ", t.possible);
     number(b", impossible ", t.impossible);

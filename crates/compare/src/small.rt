@@ -109,6 +109,6 @@ fn all_shapes(t: Tally) -> Tally {
 }
 
 // And three statements over two names of each sort.
-pub fn every_question() -> Tally {
+pub(crate) fn every_question() -> Tally {
     all_lists(all_shapes(Tally::new()), 2, 2, 3)
 }

@@ -72,7 +72,7 @@ fn differences(q: Question) -> u8 {
 
 // Is there an assignment of a pattern in which every statement holds. Which domain elements the names stand for makes no
 // difference, so one placing is tried.
-pub fn exists(q: Question, p: usize) -> bool {
+pub(crate) fn exists(q: Question, p: usize) -> bool {
     let order = order_of(q);
     let v = Assignment {
         elements: pattern(p),

@@ -41,9 +41,9 @@ module _ (f : Row Test → Bool) (t : Test) where
       go later (no ne) false q k = later k ne
 
 -- a test that every row of the entry passes
-pub entry-pass : (f : Row Test → Bool) (e : ℕ) → ((c : ℕ) → f (row c (testIn e)) ≡ true) → allRows f (rowsOfEntry e) ≡ true
+pub entry-pass : (f : Row Test → Bool) (e : ℕ) → ((c : ℕ) → bit (termsIn e) c ≡ true → f (row c (testIn e)) ≡ true) → allRows f (rowsOfEntry e) ≡ true
 unfolding rowsOfEntry
-entry-pass f e h = rows-pass f (testIn e) termRoom 0 (termsIn e) (λ d lo hi b. h d)
+entry-pass f e h = rows-pass f (testIn e) termRoom 0 (termsIn e) (λ d lo hi b. h d b)
 
 -- rows that are passed over where their term is not in the class, and else all say P
 module _ (class : ℕ) (P : Bool) (t : Test) (f : Row Test → Bool) (f-is : (c : ℕ) → f (row c t) ≡ (not (bit class c) || P)) (terms : ℕ) where

@@ -3,12 +3,12 @@ use Prim.Native.Nat.{ℕ, zero, suc, _+_, _^_, _≤_, _<_}
 use mathlib.Core.Path.{_≡_, refl, sym, ap, subst, _∙_}
 use mathlib.Core.Logic.{_≢_}
 use mathlib.Core.Bool.{false}
-use mathlib.Core.List.{List, [], _∷_}
+use mathlib.Core.List.{List}
 use native.Mathlib.Omega.{arith}
 use native.Mathlib.Decide.{ℕ-discrete, decLt}
 use lib.Bits.{bitAnd}
 use lib.Dec.{eqb}
-use lib.ListN.{length, getD, set, List·getD-eq-default}
+use lib.ListN.{length, getD, set, replicate, List·getD-eq-default}
 use lib.Seq.{getD-set-same, getD-set-other}
 use Rattle.question.specs.Masks.{bit}
 use Rattle.mask.specs.Entries.{testIn, termsIn}
@@ -21,21 +21,16 @@ use Rattle.mask.proofs.BitLaws.{bit-clear}
 use Rattle.mask.proofs.EntryLaws.{entry-apart, entry-meets}
 use Rattle.mask.proofs.LowestLaws.{asks-from}
 
--- so many copies of a number
-abbrev pub copies : ℕ → ℕ → List ℕ
-copies zero v = []
-copies (suc n) v = v ∷ copies n v
-
--- none is larger, and they fall
-at-most : (n v y : ℕ) → getD (copies n v) y 0 ≤ v
+-- so many times one number: none is larger, and they fall
+at-most : (n v y : ℕ) → getD (replicate n v) y 0 ≤ v
 at-most zero v y = omega arith
 at-most (suc n) v zero = omega arith
 at-most (suc n) v (suc y) = at-most n v y
 
-pub notes-start : (n v bits : ℕ) → v < 2 ^ 16 → Notes bits (copies n v)
+pub notes-start : (n v bits : ℕ) → v < 2 ^ 16 → Notes bits (replicate n v)
 notes-start n v bits h = record { falling = λ x y l k. falls n x y l; small = λ x. omega (arith, at-most n v x) }
   where
-    falls : (n x y : ℕ) → x ≤ y → getD (copies n v) y 0 ≤ getD (copies n v) x 0
+    falls : (n x y : ℕ) → x ≤ y → getD (replicate n v) y 0 ≤ getD (replicate n v) x 0
     falls zero x y l = omega arith
     falls (suc n) zero y l = at-most (suc n) v y
     falls (suc n) (suc x) zero l = absurd (omega arith)

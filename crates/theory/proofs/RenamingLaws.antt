@@ -42,13 +42,15 @@ getD-in f [] k lt = absurd (omega arith)
 getD-in f (m ∷ l) zero lt = refl
 getD-in f (m ∷ l) (suc k) lt = getD-in f l k (omega arith)
 
+-- of some places the first is a declared set, and so are the rest
+module _ (sets x : ℕ) (b : Bool) where
+  one : T (ltb x sets && b) → T (ltb x sets)
+  one = and-left (ltb x sets) b
+
+  rest : T (ltb x sets && b) → T b
+  rest = and-right (ltb x sets) b
+
 module _ (terms sets : ℕ) (to : ℕ → ℕ) where
-  one : (x : ℕ) (b : Bool) → T (ltb x sets && b) → T (ltb x sets)
-  one x b h = and-left (ltb x sets) b h
-
-  rest : (x : ℕ) (b : Bool) → T (ltb x sets && b) → T b
-  rest x b h = and-right (ltb x sets) b h
-
   -- where each set has the bit that its new number has, a declared test is passed exactly if the renamed one is
   module _ (has new : ℕ → Bool) (are : (x : ℕ) → x < sets → new (to x) ≡ has x) (same : ℕ → Bool) where
     at : (x : ℕ) → T (ltb x sets) → new (to x) ≡ has x
@@ -59,12 +61,12 @@ module _ (terms sets : ℕ) (to : ℕ → ℕ) where
     test-same (IsNotSame d) h = refl
     test-same (IsIn x) h = at x (and-left (ltb x sets) true h)
     test-same (IsNotIn x) h = ap not (at x (and-left (ltb x sets) true h))
-    test-same (ExactlyIfIn x y) h = rw (at x (one x _ h), at y (one y _ (rest x _ h)))
-    test-same (ExactlyIfNotIn x y) h = rw (at x (one x _ h), at y (one y _ (rest x _ h)))
-    test-same (ExactlyIfSame x a) h = ap (λ b. Bool·beq b (same a)) (at x (one x _ h))
-    test-same (ExactlyIfOr x y z) h = rw (at x (one x _ h), at y (one y _ (rest x _ h)), at z (one z _ (rest y _ (rest x _ h))))
-    test-same (ExactlyIfAnd x y z) h = rw (at x (one x _ h), at y (one y _ (rest x _ h)), at z (one z _ (rest y _ (rest x _ h))))
-    test-same (ExactlyIfAndNot x y z) h = rw (at x (one x _ h), at y (one y _ (rest x _ h)), at z (one z _ (rest y _ (rest x _ h))))
+    test-same (ExactlyIfIn x y) h = rw (at x (one sets x _ h), at y (one sets y _ (rest sets x _ h)))
+    test-same (ExactlyIfNotIn x y) h = rw (at x (one sets x _ h), at y (one sets y _ (rest sets x _ h)))
+    test-same (ExactlyIfSame x a) h = ap (λ b. Bool·beq b (same a)) (at x (one sets x _ h))
+    test-same (ExactlyIfOr x y z) h = rw (at x (one sets x _ h), at y (one sets y _ (rest sets x _ h)), at z (one sets z _ (rest sets y _ (rest sets x _ h))))
+    test-same (ExactlyIfAnd x y z) h = rw (at x (one sets x _ h), at y (one sets y _ (rest sets x _ h)), at z (one sets z _ (rest sets y _ (rest sets x _ h))))
+    test-same (ExactlyIfAndNot x y z) h = rw (at x (one sets x _ h), at y (one sets y _ (rest sets x _ h)), at z (one sets z _ (rest sets y _ (rest sets x _ h))))
 
   -- the same of rows and masks of an arrangement
   module _ (l ms news : List ℕ) (are : (k : ℕ) → k < classes l → (x : ℕ) → x < sets → bit (maskOf news k) (to x) ≡ bit (maskOf ms k) x) where
@@ -130,7 +132,7 @@ module _ (terms sets : ℕ) (to : ℕ → ℕ) where
 -- where the new numbers are those of sets, renamed rows are declared
 module _ (terms sets : ℕ) (to : ℕ → ℕ) (below : (x : ℕ) → x < sets → to x < sets) where
   set-declared : (x : ℕ) (b c : Bool) → T (ltb x sets && b) → (T b → T c) → T (ltb (to x) sets && c)
-  set-declared x b c h f = and-both (ltb (to x) sets) c (lt→ltb (to x) sets (below x (ltb→lt x sets (one terms sets to x b h)))) (f (rest terms sets to x b h))
+  set-declared x b c h f = and-both (ltb (to x) sets) c (lt→ltb (to x) sets (below x (ltb→lt x sets (one sets x b h)))) (f (rest sets x b h))
 
   test-declared : (t : Test) → T (placesDeclared terms sets (placesOf t)) → T (placesDeclared terms sets (placesOf (renamedTest to t)))
   test-declared (IsSame d) h = h
@@ -161,14 +163,14 @@ module _ (terms sets : ℕ) (to : ℕ → ℕ) (plain : (x : ℕ) → x < sets �
   test-stays : (t : Test) → T (placesDeclared terms sets (placesOf t)) → renamedTest to t ≡ t
   test-stays (IsSame d) h = refl
   test-stays (IsNotSame d) h = refl
-  test-stays (IsIn x) h = rw (stays x (one terms sets to x _ h))
-  test-stays (IsNotIn x) h = rw (stays x (one terms sets to x _ h))
-  test-stays (ExactlyIfIn x y) h = rw (stays x (one terms sets to x _ h), stays y (one terms sets to y _ (rest terms sets to x _ h)))
-  test-stays (ExactlyIfNotIn x y) h = rw (stays x (one terms sets to x _ h), stays y (one terms sets to y _ (rest terms sets to x _ h)))
-  test-stays (ExactlyIfSame x a) h = rw (stays x (one terms sets to x _ h))
-  test-stays (ExactlyIfOr x y z) h = rw (stays x (one terms sets to x _ h), stays y (one terms sets to y _ (rest terms sets to x _ h)), stays z (one terms sets to z _ (rest terms sets to y _ (rest terms sets to x _ h))))
-  test-stays (ExactlyIfAnd x y z) h = rw (stays x (one terms sets to x _ h), stays y (one terms sets to y _ (rest terms sets to x _ h)), stays z (one terms sets to z _ (rest terms sets to y _ (rest terms sets to x _ h))))
-  test-stays (ExactlyIfAndNot x y z) h = rw (stays x (one terms sets to x _ h), stays y (one terms sets to y _ (rest terms sets to x _ h)), stays z (one terms sets to z _ (rest terms sets to y _ (rest terms sets to x _ h))))
+  test-stays (IsIn x) h = rw (stays x (one sets x _ h))
+  test-stays (IsNotIn x) h = rw (stays x (one sets x _ h))
+  test-stays (ExactlyIfIn x y) h = rw (stays x (one sets x _ h), stays y (one sets y _ (rest sets x _ h)))
+  test-stays (ExactlyIfNotIn x y) h = rw (stays x (one sets x _ h), stays y (one sets y _ (rest sets x _ h)))
+  test-stays (ExactlyIfSame x a) h = rw (stays x (one sets x _ h))
+  test-stays (ExactlyIfOr x y z) h = rw (stays x (one sets x _ h), stays y (one sets y _ (rest sets x _ h)), stays z (one sets z _ (rest sets y _ (rest sets x _ h))))
+  test-stays (ExactlyIfAnd x y z) h = rw (stays x (one sets x _ h), stays y (one sets y _ (rest sets x _ h)), stays z (one sets z _ (rest sets y _ (rest sets x _ h))))
+  test-stays (ExactlyIfAndNot x y z) h = rw (stays x (one sets x _ h), stays y (one sets y _ (rest sets x _ h)), stays z (one sets z _ (rest sets y _ (rest sets x _ h))))
 
   pub rows-stay : (rows : List (Row Test)) → T (allRows (rowDeclared terms sets) rows) → map (renamedRow to) rows ≡ rows
   rows-stay [] d = refl

@@ -17,7 +17,7 @@ use Rattle.cut.proofs.TriedLaws.{neither}
 use Rattle.search.specs.Memos.{maskOfClass, classCount}
 use Rattle.search.specs.Fittings.{OthersAre, NoPart}
 use Rattle.search.proofs.MemoLaws.{not-there}
-use Rattle.search.proofs.StepLaws.{as-many}
+use Rattle.search.proofs.StepLaws.{some-left as a-term-left, room as one-of-twelve, as-many}
 use Rattle.search.proofs.FitLaws.{joined-small, part-past}
 use Rattle.search.proofs.groups.has_term.Reads as has-term
 use Rattle.search.proofs.groups.term_alone.Reads as term-alone
@@ -64,10 +64,10 @@ module _ (t : ℕ) where
 
   -- some term is left, and it is one of twelve
   some-left : (c : lts.Else1 claims here part-fits.Post) → 0 < c .before .before .before .args .left
-  some-left c = let ne : c .before .before .before .args .left ≡ 0 → ⊥ = c .if1 .left in omega arith
+  some-left c = let a = c .before .before .before .args in a-term-left (a .term) (a .left) (c .if1 .left)
 
   room : (c : lts.Else1 claims here part-fits.Post) → c .before .before .before .args .term < maxTerms
-  room c = omega (arith, some-left c, c .before .before .before .pre .1 .0 .1)
+  room c = let s = c .before .before .before in one-of-twelve (s .args .term) (s .args .left) (c .if1 .left) (s .pre .1 .0 .1)
 
   -- with the next term there are as many
   all : (c : lts.Else1 claims here part-fits.Post) → let a = c .before .before .before .args in a .term + a .left ≡ a .term + 1 + (a .left - 1)
