@@ -10,16 +10,16 @@ use lib.Dec.{eqb}
 use lib.ListN.{length, getD, take, drop, length-drop, drop-of-length-le}
 use lib.Seq.{length-take-le, getD-take, getD-drop, drop-cons, drop-drop}
 use Rattle.question.specs.Limits.{maxTerms}
-use Rattle.question.specs.Refusals.{bytesAfterEnd, badModel}
+use Rattle.outcome.specs.Refusals.{bytesAfterEnd, badModel}
 use Rattle.theory.specs.Arrangements.{classes}
 use Rattle.theory.specs.Solutions.{Solution, withMasks}
 use Rattle.field.specs.Heads.{fieldBytes}
-use Rattle.field.proofs.Never.{never}
+use Rattle.outcome.proofs.Never.{never}
 use Rattle.answer.specs.declared.answers.Verdict.the-variants.{Possible}
 use Rattle.answer.specs.declared.answers.Answer.{Answer}
 use Rattle.answer.specs.declared.frames.Frame.{Frame}
 use Rattle.answer.specs.declared.frames.Frame.the-variants.{Sound, Refused as BadFrame}
-use Rattle.answer.specs.declared.reads.AnswerFileCheck.the-variants.{Accepted}
+use Rattle.outcome.specs.declared.checks.Check.the-variants.{Accepted}
 use Rattle.answer.specs.declared.reads.ReadAnswer.{ReadAnswer}
 use Rattle.answer.specs.Answers.{padded, asAnswer, impossibleAnswer, IsArranged, MaySay}
 use Rattle.answer.specs.Bodies.{masksBody, masksIn}

@@ -7,13 +7,13 @@ use native.Mathlib.Omega.{arith}
 use borrow.Author.Tests.{ltb-false, le-ltb, eqb-true, eq-eqb, not-false}
 use lib.Dec.{eqb, ltb}
 use lib.ListN.{length, take, drop, length-append, length-drop}
-use Rattle.question.specs.Refusals.{dataEnds, tagUnknown, tagOutOfPlace, wrongLength}
+use Rattle.outcome.specs.Refusals.{dataEnds, tagUnknown, tagOutOfPlace, wrongLength}
 use Rattle.field.specs.declared.tags.File.the-variants.{Answer as AnswerFile}
 use Rattle.field.specs.declared.heads.Head.{Head}
 use Rattle.field.specs.declared.heads.Head.the-variants.{Short, Whole}
 use Rattle.field.specs.Tags.{lengthIn, lengthOf, isKnown}
 use Rattle.field.specs.Heads.{fieldBytes, headOf}
-use Rattle.field.proofs.Never.{never}
+use Rattle.outcome.proofs.Never.{never}
 use Rattle.field.proofs.HeadLaws.{head-written, head-read}
 use Rattle.answer.specs.declared.frames.Frame.the-variants.{Sound, Refused}
 use Rattle.answer.specs.Frames.{dueLength, framed, headFramed, frameOf}

@@ -11,7 +11,7 @@ use lib.ListN.{length, take, length-take}
 use Rattle.theory.specs.Arrangements.{MayFollow, classes}
 use Rattle.theory.specs.Solutions.{Solution}
 use Rattle.theory.proofs.ArrangementLaws.{classes-few as few-classes}
-use Rattle.field.proofs.Never.{never}
+use Rattle.outcome.proofs.Never.{never}
 use Rattle.answer.specs.declared.answers.Verdict.{Verdict}
 use Rattle.answer.specs.declared.answers.Verdict.the-variants.{Possible, Impossible}
 use Rattle.answer.specs.declared.answers.Answer.{Answer}

@@ -5,7 +5,7 @@ use mathlib.Core.Bool.{true, false}
 use mathlib.Core.List.{List}
 use borrow.Author.Tests.{lt-ltb, le-ltb, eq-eqb, ne-eqb}
 use lib.ListN.{length, getD, take, drop}
-use Rattle.question.specs.Refusals.{bytesAfterEnd, badModel}
+use Rattle.outcome.specs.Refusals.{bytesAfterEnd, badModel}
 use Rattle.theory.specs.Arrangements.{classes}
 use Rattle.answer.specs.declared.answers.Verdict.the-variants.{Possible}
 use Rattle.answer.specs.declared.answers.Answer.{Answer}

@@ -12,21 +12,20 @@ use lib.Pow.{pow-mono}
 use lib.ListN.{length, take}
 use lib.Seq.{take-append-seam}
 use Rattle.question.specs.declared.questions.Question.{Question}
-use Rattle.question.specs.declared.checks.TableCheck.{TableCheck}
-use Rattle.question.specs.declared.checks.TableCheck.the-variants.{Accepted as AcceptedTable, Refused as RefusedTable}
+use Rattle.outcome.specs.declared.checks.Check.{Check}
+use Rattle.outcome.specs.declared.checks.Check.the-variants.{Accepted, Refused as RefusedTable}
 use Rattle.question.specs.Limits.{maxSets, maxTerms}
 use Rattle.question.specs.Questions.{termsOf}
 use Rattle.question.specs.Checks.{checked}
 use Rattle.question.proofs.AcceptedLaws.{accepted as accepted-table}
 use Rattle.theory.specs.Solutions.{Solution}
 use Rattle.theory.specs.Answers.{maskBound}
-use Rattle.outcome.specs.Over.{over}
+use Rattle.outcome.specs.Writes.{over}
 use Rattle.outcome.specs.Calls.{Call}
-use Rattle.field.proofs.Never.{never}
+use Rattle.outcome.proofs.Never.{never}
 use Rattle.answer.specs.declared.answers.Answer.{Answer}
-use Rattle.answer.specs.declared.reads.AnswerFileCheck.the-variants.{Accepted}
 use Rattle.answer.specs.declared.reads.ReadAnswer.{ReadAnswer}
-use Rattle.answer.specs.declared.writes.AnswerWritten.the-variants.{Bytes}
+use Rattle.outcome.specs.declared.writes.Written.the-variants.{Count}
 use Rattle.answer.specs.Answers.{said, asAnswer, cleaned, HasTwelve, MaySay}
 use Rattle.answer.specs.Bytes.{fileOf, answerBytes, AreBytes}
 use Rattle.answer.specs.Reads.{accepted, checkedThen, fileRead, readAnswer}
@@ -43,7 +42,7 @@ abbrev pub back : Question → Answer → ReadAnswer
 back q a = accepted (cleaned (termsOf q) a)
 
 -- an accepted question has twelve terms and 16 sets at the most
-module _ (q : Question) (e : checked q ≡ AcceptedTable) where
+module _ (q : Question) (e : checked q ≡ Accepted) where
   few-terms : termsOf q ≤ maxTerms
   few-terms = accepted-table q .0 e .few-terms
 
@@ -72,12 +71,12 @@ module _ (q : Question) (a : Answer) (twelve : HasTwelve a) (f : Fits q a) where
 
 -- an accepted file: its question is accepted,
 module _ (q : Question) (bytes : List ℕ) (are-bytes : AreBytes bytes) (e : readAnswer q bytes .outcome ≡ Accepted) where
-  question-accepted : checked q ≡ AcceptedTable
+  question-accepted : checked q ≡ Accepted
   unfolding readAnswer
   question-accepted = go (checked q) e
     where
-      go : (c : TableCheck) → checkedThen c (fileRead (termsOf q) (maskBound q) bytes) .outcome ≡ Accepted → c ≡ AcceptedTable
-      go AcceptedTable e = refl
+      go : (c : Check) → checkedThen c (fileRead (termsOf q) (maskBound q) bytes) .outcome ≡ Accepted → c ≡ Accepted
+      go Accepted e = refl
       go (RefusedTable r) e = never cc
 
   pub read-whole : WholeFile (termsOf q) (maskBound q) bytes (readAnswer q bytes .answer)
@@ -106,7 +105,7 @@ module _ (q : Question) (bytes : List ℕ) (are-bytes : AreBytes bytes) (e : rea
   written-again = ap fileOf read-says ∙ sym (read-whole .written)
 
 -- the reader accepts exactly the files of what may be said
-pub accepts : (q : Question) (bytes : List ℕ) → checked q ≡ AcceptedTable → AreBytes bytes →
+pub accepts : (q : Question) (bytes : List ℕ) → checked q ≡ Accepted → AreBytes bytes →
     (readAnswer q bytes .outcome ≡ Accepted) ↔ ((s : Option Solution) × MaySay (termsOf q) (maskBound q) s × (bytes ≡ fileOf s))
 accepts q bytes c are-bytes = (
   λ e. let f = read-whole q bytes are-bytes e in (f .says, f .may, f .written),
@@ -121,7 +120,7 @@ accepts-written q bytes are-bytes = (
 )
 
 -- the same, of buffers: what is written of n bytes is read back,
-back-from-buffer : (q : Question) (a : Answer) (n : ℕ) (old new bytes : List ℕ) → HasTwelve a → written q a (length old) ≡ Bytes n → new ≡ writtenOver q a old → bytes ≡ take n new → readAnswer q bytes ≡ back q a
+back-from-buffer : (q : Question) (a : Answer) (n : ℕ) (old new bytes : List ℕ) → HasTwelve a → written q a (length old) ≡ Count n → new ≡ writtenOver q a old → bytes ≡ take n new → readAnswer q bytes ≡ back q a
 back-from-buffer q a n old new bytes twelve w b t =
     let k = written-writable q a (length old) n w in
     let same : bytes ≡ answerBytes q a = t ∙ ap₂ take (k .1) (b ∙ written-over q a old (k .0)) ∙ take-append-seam (answerBytes q a) _ in
@@ -129,14 +128,14 @@ back-from-buffer q a n old new bytes twelve w b t =
 
 -- and what is read is written again
 again-in-buffer : (q : Question) (bytes old : List ℕ) (a : Answer) → AreBytes bytes → readAnswer q bytes .outcome ≡ Accepted → a ≡ readAnswer q bytes .answer → length bytes ≤ length old →
-    (written q a (length old) ≡ Bytes (length bytes)) × (writtenOver q a old ≡ over bytes old)
+    (written q a (length old) ≡ Count (length bytes)) × (writtenOver q a old ≡ over bytes old)
 again-in-buffer q bytes old a are-bytes e s h =
     let same : answerBytes q a ≡ bytes = ap (answerBytes q) s ∙ written-again q bytes are-bytes e in
     let k : Writable q a (length old) = (rw s (read-fits q bytes are-bytes e), omega (arith, ap length same)) in
-    (writable-written q a (length old) k ∙ ap (λ l. Bytes (length l)) same, written-over q a old k ∙ ap (λ l. over l old) same)
+    (writable-written q a (length old) k ∙ ap (λ l. Count (length l)) same, written-over q a old k ∙ ap (λ l. over l old) same)
 
 -- what a call of `write_answer` wrote, a call of `read_answer` beside the same question gives back
-pub written-then-read : (w : Call write.Learnt) (r : Call read.Learnt) (n : ℕ) → HasTwelve (w .given .1 .0) → w .result ≡ Bytes n → r .given .0 ≡ w .given .0 → now (r .given .1 .0) ≡ take n (now (w .exit .1 .1 .0)) →
+pub written-then-read : (w : Call write.Learnt) (r : Call read.Learnt) (n : ℕ) → HasTwelve (w .given .1 .0) → w .result ≡ Count n → r .given .0 ≡ w .given .0 → now (r .given .1 .0) ≡ take n (now (w .exit .1 .1 .0)) →
     r .result ≡ back (w .given .0) (w .given .1 .0)
 written-then-read w r n twelve e q b =
     r .fits ∙ ap (λ x. readAnswer x (now (r .given .1 .0))) q
@@ -144,7 +143,7 @@ written-then-read w r n twelve e q b =
 
 -- what a call of `read_answer` accepted, a call of `write_answer` beside the same question with enough room writes again
 pub read-then-written : (r : Call read.Learnt) (w : Call write.Learnt) → AreBytes (now (r .given .1 .0)) → r .result .outcome ≡ Accepted → w .given .0 ≡ r .given .0 → w .given .1 .0 ≡ r .result .answer → length (now (r .given .1 .0)) ≤ length (now (w .given .1 .1 .0)) →
-    (w .result ≡ Bytes (length (now (r .given .1 .0)))) × (now (w .exit .1 .1 .0) ≡ over (now (r .given .1 .0)) (now (w .given .1 .1 .0)))
+    (w .result ≡ Count (length (now (r .given .1 .0)))) × (now (w .exit .1 .1 .0) ≡ over (now (r .given .1 .0)) (now (w .given .1 .1 .0)))
 read-then-written r w are-bytes e q s h =
     let same = r .fits ∙ ap (λ x. readAnswer x (now (r .given .1 .0))) (sym q) in
     let k = again-in-buffer (w .given .0) (now (r .given .1 .0)) (now (w .given .1 .1 .0)) (w .given .1 .0) are-bytes (sym (ap (λ x. x .outcome) same) ∙ e) (s ∙ ap (λ x. x .answer) same) h in

@@ -7,28 +7,28 @@ use mathlib.Core.Logic.{_↔_}
 use borrow.Author.Tests.{ltb-false, le-ltb}
 use lib.Dec.{ltb}
 use lib.ListN.{length}
-use Rattle.question.specs.declared.refusals.Refusal.{Refusal}
+use Rattle.outcome.specs.declared.refusals.Refusal.{Refusal}
 use Rattle.question.specs.declared.questions.Question.{Question}
-use Rattle.question.specs.declared.checks.TableCheck.{TableCheck}
-use Rattle.question.specs.declared.checks.TableCheck.the-variants.{Accepted, Refused as RefusedTable}
-use Rattle.question.specs.Refusals.{refusal, bufferTooShort, badModel}
+use Rattle.outcome.specs.declared.checks.Check.{Check}
+use Rattle.outcome.specs.declared.checks.Check.the-variants.{Accepted, Refused as RefusedTable}
+use Rattle.outcome.specs.Refusals.{refusal, bufferTooShort, badModel}
 use Rattle.question.specs.Questions.{termsOf}
-use Rattle.question.specs.Checks.{checked, checkedOver}
+use Rattle.outcome.specs.Writes.{checkedOver, over, checkedThen}
+use Rattle.question.specs.Checks.{checked}
 use Rattle.theory.specs.Answers.{maskBound}
-use Rattle.outcome.specs.Over.{over}
-use Rattle.field.proofs.Never.{never}
+use Rattle.outcome.proofs.Never.{never}
 use Rattle.answer.specs.declared.answers.Answer.{Answer}
-use Rattle.answer.specs.declared.writes.AnswerWritten.{AnswerWritten}
-use Rattle.answer.specs.declared.writes.AnswerWritten.the-variants.{Bytes, Refused}
+use Rattle.outcome.specs.declared.writes.Written.{Written}
+use Rattle.outcome.specs.declared.writes.Written.the-variants.{Count, Refused}
 use Rattle.answer.specs.Answers.{said}
 use Rattle.answer.specs.Bytes.{answerBytes}
 use Rattle.answer.specs.Checks.{isGood}
-use Rattle.answer.specs.Writes.{checkedThen, goodWritten, goodOver, written, writtenOver}
+use Rattle.answer.specs.Writes.{goodWritten, goodOver, written, writtenOver}
 
-refused-bytes : {A : Type 0} {r : Refusal} {n : ℕ} → Refused r ≡ Bytes n → A
+refused-bytes : {A : Type 0} {r : Refusal} {n : ℕ} → Refused r ≡ Count n → A
 refused-bytes e = never cc
 
-bytes-same : {m n : ℕ} → Bytes m ≡ Bytes n → m ≡ n
+bytes-same : {m n : ℕ} → Count m ≡ Count n → m ≡ n
 bytes-same e = cc
 
 module _ (q : Question) (a : Answer) where
@@ -41,29 +41,29 @@ module _ (q : Question) (a : Answer) where
   Writable room = Fits × (length (answerBytes q a) ≤ room)
 
   -- what the writer answers, and the buffer after it, by the three tests
-  abbrev answerBy : TableCheck → Bool → Bool → AnswerWritten
-  answerBy c good short = checkedThen c (cond good (cond short (Refused (refusal bufferTooShort 0)) (Bytes (length (answerBytes q a)))) (Refused (refusal badModel 0)))
+  abbrev answerBy : Check → Bool → Bool → Written
+  answerBy c good short = checkedThen c (cond good (cond short (Refused (refusal bufferTooShort 0)) (Count (length (answerBytes q a)))) (Refused (refusal badModel 0)))
 
-  abbrev bufferBy : TableCheck → Bool → Bool → List ℕ → List ℕ
+  abbrev bufferBy : Check → Bool → Bool → List ℕ → List ℕ
   bufferBy c good short old = checkedOver c (cond good (cond short old (over (answerBytes q a) old)) old) old
 
   module _ (room : ℕ) where
-    pub writable-written : Writable room → written q a room ≡ Bytes (length (answerBytes q a))
+    pub writable-written : Writable room → written q a room ≡ Count (length (answerBytes q a))
     unfolding written goodWritten
     writable-written w = rw (w .0 .0, w .0 .1, le-ltb room (length (answerBytes q a)) (w .1))
 
-    pub written-writable : (n : ℕ) → written q a room ≡ Bytes n → Writable room × (n ≡ length (answerBytes q a))
+    pub written-writable : (n : ℕ) → written q a room ≡ Count n → Writable room × (n ≡ length (answerBytes q a))
     unfolding written goodWritten
     written-writable n e = go (checked q) (isGood (maskBound q) (said (termsOf q) a)) (ltb room (length (answerBytes q a))) refl refl refl e
       where
-        go : (c : TableCheck) (g b : Bool) → checked q ≡ c → isGood (maskBound q) (said (termsOf q) a) ≡ g → ltb room (length (answerBytes q a)) ≡ b → answerBy c g b ≡ Bytes n → Writable room × (n ≡ length (answerBytes q a))
+        go : (c : Check) (g b : Bool) → checked q ≡ c → isGood (maskBound q) (said (termsOf q) a) ≡ g → ltb room (length (answerBytes q a)) ≡ b → answerBy c g b ≡ Count n → Writable room × (n ≡ length (answerBytes q a))
         go (RefusedTable r) g b p k h e = refused-bytes e
         go Accepted false b p k h e = refused-bytes e
         go Accepted true true p k h e = refused-bytes e
         go Accepted true false p k h e = (((p, k), ltb-false room _ h), sym (bytes-same e))
 
     -- the writer writes exactly where it may
-    pub writes : (written q a room ≡ Bytes (length (answerBytes q a))) ↔ Writable room
+    pub writes : (written q a room ≡ Count (length (answerBytes q a))) ↔ Writable room
     writes = ((λ e. written-writable (length (answerBytes q a)) e .0), writable-written)
 
   module _ (old : List ℕ) where
@@ -77,7 +77,7 @@ module _ (q : Question) (a : Answer) where
     unfolding written goodWritten writtenOver goodOver
     refused-over r e = go (checked q) (isGood (maskBound q) (said (termsOf q) a)) (ltb (length old) (length (answerBytes q a))) e
       where
-        go : (c : TableCheck) (g b : Bool) → answerBy c g b ≡ Refused r → bufferBy c g b old ≡ old
+        go : (c : Check) (g b : Bool) → answerBy c g b ≡ Refused r → bufferBy c g b old ≡ old
         go (RefusedTable r) g b e = refl
         go Accepted false b e = refl
         go Accepted true true e = refl

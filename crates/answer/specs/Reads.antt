@@ -4,11 +4,11 @@ use mathlib.Core.Bool.{Bool, cond}
 use mathlib.Core.List.{List}
 use lib.Dec.{eqb, ltb}
 use lib.ListN.{length, getD, take, drop}
-use Rattle.question.specs.declared.refusals.Refusal.{Refusal}
+use Rattle.outcome.specs.declared.refusals.Refusal.{Refusal}
 use Rattle.question.specs.declared.questions.Question.{Question}
-use Rattle.question.specs.declared.checks.TableCheck.{TableCheck}
-use Rattle.question.specs.declared.checks.TableCheck.the-variants.{Accepted as AcceptedTable, Refused as RefusedTable}
-use Rattle.question.specs.Refusals.{refusal, bytesAfterEnd, badModel}
+use Rattle.outcome.specs.Checks.{acceptedThen}
+use Rattle.outcome.specs.declared.checks.Check.the-variants.{Accepted, Refused}
+use Rattle.outcome.specs.Refusals.{refusal, bytesAfterEnd, badModel}
 use Rattle.question.specs.Questions.{termsOf}
 use Rattle.question.specs.Checks.{checked}
 use Rattle.theory.specs.Arrangements.{classes}
@@ -17,7 +17,6 @@ use Rattle.answer.specs.declared.answers.Verdict.the-variants.{Possible}
 use Rattle.answer.specs.declared.answers.Answer.{Answer}
 use Rattle.answer.specs.declared.frames.Frame.{Frame}
 use Rattle.answer.specs.declared.frames.Frame.the-variants.{Sound, Refused as BadFrame}
-use Rattle.answer.specs.declared.reads.AnswerFileCheck.the-variants.{Accepted, Refused}
 use Rattle.answer.specs.declared.reads.ReadAnswer.{ReadAnswer}
 use Rattle.answer.specs.Answers.{padded, impossibleAnswer, filler}
 use Rattle.answer.specs.Bodies.{masksIn}
@@ -77,11 +76,6 @@ verdictRead T bound bytes verdict =
 unfoldable pub fileRead : ℕ → ℕ → List ℕ → ReadAnswer
 fileRead T bound bytes = framedThen 0 (frameOf 0x40 0 bytes) (verdictRead T bound bytes (getD bytes 3 0))
 
--- before it the refusals of the table
-abbrev pub checkedThen : TableCheck → ReadAnswer → ReadAnswer
-checkedThen AcceptedTable next = next
-checkedThen (RefusedTable r) next = refusedFile r
-
--- the answer of a file, beside its question
+-- the answer of a file, beside its question: before it the refusals of the table
 unfoldable pub readAnswer : Question → List ℕ → ReadAnswer
-readAnswer q bytes = checkedThen (checked q) (fileRead (termsOf q) (maskBound q) bytes)
+readAnswer q bytes = acceptedThen (checked q) refusedFile (fileRead (termsOf q) (maskBound q) bytes)

@@ -8,8 +8,6 @@ mod writes;
 
 pub use answers::Answer;
 pub use answers::Verdict;
-pub use reads::AnswerFileCheck;
 pub use reads::ReadAnswer;
 pub use reads::read_answer;
-pub use writes::AnswerWritten;
 pub use writes::write_answer;

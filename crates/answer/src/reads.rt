@@ -10,9 +10,9 @@ use crate::checks::mask_bound;
 use crate::frames::Frame;
 use crate::frames::frame_at;
 use field::byte_at;
+use outcome::Check;
+use outcome::Refusal;
 use question::Question;
-use question::Refusal;
-use question::TableCheck;
 use question::check;
 use question::terms;
 ghost use mathlib.Core.Path.{_≡_};
@@ -20,14 +20,9 @@ ghost use Prim.Native.Nat.{_≤_};
 ghost use Rattle.question.specs.Limits.{maxTerms};
 ghost use Rattle.answer.specs.Reads.{refusedFile, refusedAt, endRead, masksRead, numbersRead, verdictRead, fileRead, readAnswer};
 
-pub enum AnswerFileCheck {
-    Accepted,
-    Refused(Refusal),
-}
-
 // Whether the file is accepted, and its answer. Where it is refused the answer is a filler, which never says "impossible".
 pub struct ReadAnswer {
-    pub outcome: AnswerFileCheck,
+    pub outcome: Check,
     pub answer: Answer,
 }
 
@@ -40,7 +35,7 @@ fn refuse_file(refusal: Refusal) -> ReadAnswer
         masks: [0; 12],
     };
     ReadAnswer {
-        outcome: AnswerFileCheck::Refused(refusal),
+        outcome: Check::Refused(refusal),
         answer: filler,
     }
 }
@@ -64,7 +59,7 @@ fn read_end(bytes: &[u8], at: usize, a: Answer) -> ReadAnswer
                 return refuse(Refusal::BYTES_AFTER_END, end);
             }
             ReadAnswer {
-                outcome: AnswerFileCheck::Accepted,
+                outcome: Check::Accepted,
                 answer: a,
             }
         }
@@ -146,8 +141,8 @@ pub fn read_answer(q: Question, bytes: &[u8]) -> ReadAnswer
     ensures { λ r. ⌜ r ≡ readAnswer q (now (bytes .entry)) ⌝ }
 {
     match check(q) {
-        TableCheck::Refused(refusal) => refuse_file(refusal),
-        TableCheck::Accepted => {
+        Check::Refused(refusal) => refuse_file(refusal),
+        Check::Accepted => {
             let total = terms(q);
             let bound = mask_bound(q.sets);
             read_file(bytes, total, bound)

@@ -5,27 +5,22 @@ use crate::checks::AnswerCheck;
 use crate::checks::check_answer;
 use crate::checks::mask_bound;
 use field::put_field;
+use outcome::Check;
+use outcome::Refusal;
+use outcome::Written;
 use question::Question;
-use question::Refusal;
-use question::TableCheck;
 use question::check;
 use question::terms;
 ghost use mathlib.Core.Path.{_≡_};
 ghost use Prim.Native.Nat.{_*_, _≤_};
 ghost use lib.ListN.{length, take};
 ghost use Rattle.question.specs.Limits.{maxTerms};
-ghost use Rattle.outcome.specs.Over.{over, fittedOver};
+ghost use Rattle.outcome.specs.Writes.{over, fittedOver, fitted};
 ghost use Rattle.answer.specs.Answers.{cutTo, said};
 ghost use Rattle.answer.specs.Bodies.{masksBody};
 ghost use Rattle.answer.specs.Bytes.{verdictByte, numbersBytes, masksBytes, solutionBytes, modelBytes, fileOf};
 ghost use Rattle.answer.specs.Checks.{classesIn};
-ghost use Rattle.answer.specs.Writes.{fitted, goodWritten, goodOver, written, writtenOver};
-
-pub enum AnswerWritten {
-    // How many bytes were written.
-    Bytes(usize),
-    Refused(Refusal),
-}
+ghost use Rattle.answer.specs.Writes.{goodWritten, goodOver, written, writtenOver};
 
 // The body of field 42: two bytes a class, high byte first.
 fn mask_body(masks: [u32; 12], classes: usize) -> [u8; 24]
@@ -123,36 +118,36 @@ fn file_length(a: Answer, terms: usize, classes: usize) -> usize
 }
 
 // The file of a good answer: 10 if the buffer is shorter than it.
-fn write_fitting(a: Answer, terms: usize, classes: usize, buf: &mut [u8]) -> AnswerWritten
+fn write_fitting(a: Answer, terms: usize, classes: usize, buf: &mut [u8]) -> Written
     requires { ⌜ (terms ≤ maxTerms) × (classes ≤ maxTerms) × (classes ≡ classesIn (said terms a)) ⌝ }
     ensures { λ r. ⌜ (r ≡ fitted (fileOf (said terms a)) (length (now (buf .entry)))) × (now (buf .exit) ≡ fittedOver (fileOf (said terms a)) (now (buf .entry))) ⌝ }
 {
     let length = file_length(a, terms, classes);
     if buf.len() < length {
-        return AnswerWritten::Refused(Refusal::new(Refusal::BUFFER_TOO_SHORT, 0));
+        return Written::Refused(Refusal::new(Refusal::BUFFER_TOO_SHORT, 0));
     }
     put_answer(a, terms, classes, buf);
-    AnswerWritten::Bytes(length)
+    Written::Count(length)
 }
 
 // The file of an answer for so many terms: 11, then 10.
-fn write_good(a: Answer, terms: usize, bound: u64, buf: &mut [u8]) -> AnswerWritten
+fn write_good(a: Answer, terms: usize, bound: u64, buf: &mut [u8]) -> Written
     requires { ⌜ terms ≤ maxTerms ⌝ }
     ensures { λ r. ⌜ (r ≡ goodWritten bound (said terms a) (length (now (buf .entry)))) × (now (buf .exit) ≡ goodOver bound (said terms a) (now (buf .entry))) ⌝ }
 {
     match check_answer(a, terms, bound) {
-        AnswerCheck::Bad => AnswerWritten::Refused(Refusal::new(Refusal::BAD_MODEL, 0)),
+        AnswerCheck::Bad => Written::Refused(Refusal::new(Refusal::BAD_MODEL, 0)),
         AnswerCheck::Good(classes) => write_fitting(a, terms, classes, buf),
     }
 }
 
 // The file of an answer beside its question: the refusals of the table, then 11, then 10; a refusal leaves the buffer as it was.
-pub fn write_answer(q: Question, a: Answer, buf: &mut [u8]) -> AnswerWritten
+pub fn write_answer(q: Question, a: Answer, buf: &mut [u8]) -> Written
     ensures { λ r. ⌜ (r ≡ written q a (length (now (buf .entry)))) × (now (buf .exit) ≡ writtenOver q a (now (buf .entry))) ⌝ }
 {
     match check(q) {
-        TableCheck::Refused(refusal) => AnswerWritten::Refused(refusal),
-        TableCheck::Accepted => {
+        Check::Refused(refusal) => Written::Refused(refusal),
+        Check::Accepted => {
             let total = terms(q);
             let bound = mask_bound(q.sets);
             write_good(a, total, bound, buf)

@@ -11,17 +11,15 @@ use crate::outcomes;
 use crate::tables::byte_at;
 use crate::tables::table;
 use answer::Answer;
-use answer::AnswerFileCheck;
 use answer::read_answer;
 use answer::write_answer;
 use judge::judge;
+use outcome::Check;
+use outcome::Written;
 use question::Question;
 use question::check;
-use question_file::FileCheck;
-use question_file::Written;
 use question_file::read_question;
 use question_file::write_question;
-use reduction::Reduced;
 use reduction::reduce;
 use sayfudhoum::answer_file;
 use sayfudhoum::respond;
@@ -42,7 +40,7 @@ fn judge_model(bytes: &[u8], points: &[u8], memberships: &[u8]) {
 
 fn write_into(q: Question, file: &mut [u8]) {
     match write_question(q, file) {
-        Written::Bytes(count) => {
+        Written::Count(count) => {
             if count <= file.len() {
                 outcomes::text(b"file");
                 outcomes::bytes(&file[0..count]);
@@ -57,11 +55,11 @@ fn read_file(bytes: &[u8]) {
     let read = read_question(bytes);
     let outcome = read.outcome;
     match outcome {
-        FileCheck::Accepted => {
+        Check::Accepted => {
             let mut file = io::buffer();
             write_into(read.question, &mut file);
         }
-        FileCheck::Refused(r) => outcomes::refusal(r),
+        Check::Refused(r) => outcomes::refusal(r),
     }
 }
 
@@ -82,12 +80,12 @@ fn read_beside(q: Question, bytes: &[u8]) {
     let read = read_answer(q, bytes);
     let outcome = read.outcome;
     match outcome {
-        AnswerFileCheck::Accepted => {
+        Check::Accepted => {
             let answer = read.answer;
             let mut file = io::buffer();
             write_answer_into(q, answer, &mut file);
         }
-        AnswerFileCheck::Refused(r) => outcomes::refusal(r),
+        Check::Refused(r) => outcomes::refusal(r),
     }
 }
 
@@ -144,12 +142,12 @@ fn space() -> [u32; 1024]
 fn reduce_into(bytes: &[u8], rows: &mut [u32]) {
     let answer = reduce(table(bytes), rows);
     match answer {
-        Reduced::Rows(count) => {
+        Written::Count(count) => {
             if count <= rows.len() {
                 outcomes::rows(&rows[0..count]);
             }
         }
-        Reduced::Refused(r) => outcomes::refusal(r),
+        Written::Refused(r) => outcomes::refusal(r),
     }
 }
 
@@ -173,14 +171,14 @@ fn decide_in(q: Question, rows: &mut [u32]) {
     let terms = question::terms(q);
     let reduced = reduce(q, rows);
     match reduced {
-        Reduced::Rows(count) => {
+        Written::Count(count) => {
             if count <= rows.len() {
                 let answer = search(&rows[0..count], terms, q.sets);
                 outcomes::search_answer(answer, terms);
                 judge_answer(q, answer);
             }
         }
-        Reduced::Refused(r) => outcomes::refusal(r),
+        Written::Refused(r) => outcomes::refusal(r),
     }
 }
 

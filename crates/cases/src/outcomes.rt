@@ -1,9 +1,9 @@
 // How an outcome is printed.
-use answer::AnswerWritten;
 use judge::Judgement;
 use libc::STDOUT_FILENO;
-use question::Refusal;
-use question::TableCheck;
+use outcome::Check;
+use outcome::Refusal;
+use outcome::Written;
 use search::SearchAnswer;
 use search::Verdict;
 
@@ -24,10 +24,10 @@ pub(crate) fn refusal(r: Refusal) {
     number(place);
 }
 
-pub(crate) fn check(c: TableCheck) {
+pub(crate) fn check(c: Check) {
     match c {
-        TableCheck::Accepted => text(b"accepted"),
-        TableCheck::Refused(r) => refusal(r),
+        Check::Accepted => text(b"accepted"),
+        Check::Refused(r) => refusal(r),
     }
 }
 
@@ -64,15 +64,15 @@ pub(crate) fn bytes(file: &[u8]) {
 }
 
 // The bytes that a writer put into a buffer.
-pub(crate) fn written(w: AnswerWritten, file: &[u8]) {
+pub(crate) fn written(w: Written, file: &[u8]) {
     match w {
-        AnswerWritten::Bytes(count) => {
+        Written::Count(count) => {
             if count <= file.len() {
                 text(b"file");
                 bytes(&file[0..count]);
             }
         }
-        AnswerWritten::Refused(r) => refusal(r),
+        Written::Refused(r) => refusal(r),
     }
 }
 

@@ -6,8 +6,8 @@ use crate::printing;
 use crate::trials::exists;
 use answer::Answer;
 use answer::Verdict;
+use outcome::Check;
 use question::Question;
-use sayfudhoum::DecisionCheck;
 use sayfudhoum::decide;
 
 pub struct Tally {
@@ -62,8 +62,8 @@ pub(crate) fn hold(t: Tally, q: Question, possible: bool) -> Tally {
     let outcome = decision.outcome;
     let answer = decision.answer;
     match outcome {
-        DecisionCheck::Refused(_) => differ(t, q),
-        DecisionCheck::Decided => {
+        Check::Refused(_) => differ(t, q),
+        Check::Accepted => {
             if is_possible(answer) {
                 let mut counted = t;
                 counted.models = one_more(t.models);

@@ -4,7 +4,7 @@ use crate::comparing::Tally;
 use crate::comparing::counted;
 use crate::comparing::differ;
 use crate::comparing::hold;
-use question_file::FileCheck;
+use outcome::Check;
 use question_file::read_question;
 ghost use mathlib.Core.Path.{_≡_};
 ghost use Prim.Native.Nat.{_≤_, _<_};
@@ -63,8 +63,8 @@ fn verdict(t: Tally, letter: u8, bytes: &[u8], total: usize) -> Tally
     let outcome = read.outcome;
     let possible = letter == b'P';
     match outcome {
-        FileCheck::Accepted => counted(hold(t, read.question, possible), possible),
-        FileCheck::Refused(_) => differ(t, read.question),
+        Check::Accepted => counted(hold(t, read.question, possible), possible),
+        Check::Refused(_) => differ(t, read.question),
     }
 }
 

@@ -1,8 +1,8 @@
 // What is printed: counts, and the first question on which the two solvers differ.
 use crate::comparing::Tally;
 use libc::STDOUT_FILENO;
+use outcome::Written;
 use question::Question;
-use question_file::Written;
 use question_file::write_question;
 
 pub(crate) fn text(words: &[u8]) {
@@ -23,7 +23,7 @@ pub(crate) fn difference(q: Question) {
     text(b"the two differ on");
     let mut file = io::buffer();
     match write_question(q, &mut file) {
-        Written::Bytes(count) => {
+        Written::Count(count) => {
             if count <= 392 {
                 bytes(&file[0..count]);
             }

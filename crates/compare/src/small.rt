@@ -1,12 +1,12 @@
 // Every question of a small shape: at most two element names and two set names with at most two statements, two of each with three.
 use crate::comparing::Tally;
 use crate::comparing::compare;
+use outcome::Check;
 use question::ElementName;
 use question::Question;
 use question::Record;
 use question::SetName;
 use question::Statement;
-use question::TableCheck;
 use question::check;
 
 // The statements over two names of each sort.
@@ -74,8 +74,8 @@ fn lists(count: usize) -> u64 {
 // Is list number k one to be tried: its names are declared, and of two lists of three that differ in the order of the first two it is one.
 fn is_tried(q: Question, k: u64) -> bool {
     match check(q) {
-        TableCheck::Accepted => (q.count < 3) | (k % STATEMENTS <= k / STATEMENTS % STATEMENTS),
-        TableCheck::Refused(_) => false,
+        Check::Accepted => (q.count < 3) | (k % STATEMENTS <= k / STATEMENTS % STATEMENTS),
+        Check::Refused(_) => false,
     }
 }
 

@@ -1,6 +1,6 @@
 // The program: a question file on standard input, and on standard output its answer, or the report of its refusal.
 // Everything that matters is in the library. No byte after the 395th alters what is read, so 4,096 are enough.
-use answer::AnswerWritten;
+use outcome::Written;
 use sayfudhoum::respond;
 
 fn main() {
@@ -9,9 +9,9 @@ fn main() {
     // The longest answer has 49 bytes, so 10 never comes.
     let mut output = [0u8; 49];
     match respond(&input[0..n], &mut output) {
-        AnswerWritten::Bytes(count) => {
+        Written::Count(count) => {
             io::write_all(1, &output[0..count]);
         }
-        AnswerWritten::Refused(_) => {}
+        Written::Refused(_) => {}
     }
 }

@@ -8,7 +8,7 @@ use lib.ListN.{length, getD, take, drop, take-append-drop}
 use lib.Seq.{drop-cons, length-take-le}
 use Rattle.field.specs.declared.heads.Head.the-variants.{Short, Whole}
 use Rattle.field.specs.Heads.{headOf, fieldBytes}
-use Rattle.field.proofs.Never.{never}
+use Rattle.outcome.proofs.Never.{never}
 
 pub short : (bytes : List ℕ) → length bytes < 3 → headOf bytes ≡ Short
 unfolding headOf

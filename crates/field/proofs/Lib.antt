@@ -1,5 +1,4 @@
 -- Laws that belong to no one function: of the table, of heads, and of fields that are written.
-pub mod Never
 pub mod TagLaws
 pub mod HeadLaws
 pub mod WriteLaws

@@ -15,7 +15,7 @@ use Rattle.field.specs.declared.tags.BodyLength.{BodyLength}
 use Rattle.field.specs.declared.tags.BodyLength.the-variants.{Unknown, Fixed, Depends}
 use Rattle.field.specs.declared.tags.Entry.{Entry}
 use Rattle.field.specs.Tags.{fieldTable, noEntry, knows, stands, lengthIn, lengthOf, isKnown}
-use Rattle.field.proofs.Never.{never}
+use Rattle.outcome.proofs.Never.{never}
 
 -- one turn of the walk, over any table
 module _ (file : File) (tag : ℕ) (t : List Entry) where

@@ -5,7 +5,7 @@ use mathlib.Core.List.{List}
 use borrow.Author.Tests.{le-leb, lt-leb}
 use lib.ListN.{length}
 use Rattle.field.specs.Heads.{fieldBytes}
-use Rattle.outcome.specs.Over.{over}
+use Rattle.outcome.specs.Writes.{over}
 use Rattle.field.specs.Writes.{longestBody, fieldCount, fieldOver}
 
 module _ (tag : ℕ) (body old : List ℕ) where

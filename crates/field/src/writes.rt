@@ -3,7 +3,7 @@ ghost use mathlib.Core.Path.{_≡_};
 ghost use mathlib.Core.List.{[], _∷_};
 ghost use Prim.Native.Nat.{_/_, _%_, _≤_};
 ghost use lib.ListN.{length};
-ghost use Rattle.outcome.specs.Over.{over};
+ghost use Rattle.outcome.specs.Writes.{over};
 ghost use Rattle.field.specs.Writes.{longestBody, fieldCount, fieldOver};
 
 const LONGEST_BODY: usize = 65535;

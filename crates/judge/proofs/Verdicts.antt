@@ -9,11 +9,11 @@ use lib.Dec.{T, leb, ltb, ltb→lt}
 use lib.ListN.{length, getD}
 use Rattle.question.specs.declared.statements.Statement.{Statement}
 use Rattle.question.specs.declared.questions.Question.{Question}
-use Rattle.question.specs.declared.checks.TableCheck.{TableCheck}
-use Rattle.question.specs.declared.checks.TableCheck.the-variants.{Accepted, Refused as TableRefused}
-use Rattle.question.specs.declared.refusals.Refusal.{Refusal}
+use Rattle.outcome.specs.declared.checks.Check.{Check}
+use Rattle.outcome.specs.declared.checks.Check.the-variants.{Accepted, Refused as TableRefused}
+use Rattle.outcome.specs.declared.refusals.Refusal.{Refusal}
 use Rattle.question.specs.Limits.{maxTerms}
-use Rattle.question.specs.Refusals.{refusal, badModel}
+use Rattle.outcome.specs.Refusals.{refusal, badModel}
 use Rattle.question.specs.Questions.{idle, statements}
 use Rattle.question.specs.Checks.{checked, IsAccepted}
 use Rattle.question.specs.Meaning.{Assignment, IsAssignment, everywhere, holds, AllHold}
@@ -102,7 +102,7 @@ module _ (q : Question) (m : Model) where
   unfolding judged modelJudged
   sound e = go (checked q) (isModel (q .elements) (q .sets) m) refl refl e
     where
-      go : (t : TableCheck) (b : Bool) → checked q ≡ t → isModel (q .elements) (q .sets) m ≡ b →
+      go : (t : Check) (b : Bool) → checked q ≡ t → isModel (q .elements) (q .sets) m ≡ b →
           acceptedThen t (cond b (firstFailing (holds (assigned m)) 0 (statements q)) (Refused (refusal badModel 0))) ≡ Yes → Sound
       go (TableRefused r) b p g e = refused-yes e
       go Accepted false p g e = refused-yes e
@@ -119,7 +119,7 @@ module _ (q : Question) (m : Model) where
   unfolding judged modelJudged
   no-means i e = go (checked q) (isModel (q .elements) (q .sets) m) e
     where
-      go : (t : TableCheck) (b : Bool) → acceptedThen t (cond b (firstFailing (holds (assigned m)) 0 (statements q)) (Refused (refusal badModel 0))) ≡ No i → FirstToFail (assigned m) (statements q) i
+      go : (t : Check) (b : Bool) → acceptedThen t (cond b (firstFailing (holds (assigned m)) 0 (statements q)) (Refused (refusal badModel 0))) ≡ No i → FirstToFail (assigned m) (statements q) i
       go (TableRefused r) b e = refused-no e
       go Accepted false e = refused-no e
       go Accepted true e =

@@ -4,9 +4,8 @@ use mathlib.Core.Bool.{Bool, cond}
 use mathlib.Core.List.{List, [], _∷_}
 use Rattle.question.specs.declared.statements.Statement.{Statement}
 use Rattle.question.specs.declared.questions.Question.{Question}
-use Rattle.question.specs.declared.checks.TableCheck.{TableCheck}
-use Rattle.question.specs.declared.checks.TableCheck.the-variants.{Accepted, Refused as TableRefused}
-use Rattle.question.specs.Refusals.{refusal, badModel}
+use Rattle.outcome.specs.Refusals.{refusal, badModel}
+use Rattle.outcome.specs.Checks.{acceptedThen}
 use Rattle.question.specs.Questions.{statements}
 use Rattle.question.specs.Checks.{checked}
 use Rattle.question.specs.Meaning.{holds}
@@ -24,11 +23,6 @@ firstFailing f i (s ∷ ss) = cond (f s) (firstFailing f (suc i) ss) (No i)
 unfoldable pub modelJudged : Question → Model → Judgement
 modelJudged q m = cond (isModel (q .elements) (q .sets) m) (firstFailing (holds (assigned m)) 0 (statements q)) (Refused (refusal badModel 0))
 
--- what follows where the table is accepted, else its refusal
-abbrev pub acceptedThen : TableCheck → Judgement → Judgement
-acceptedThen Accepted next = next
-acceptedThen (TableRefused r) next = Refused r
-
 -- the table's refusals, then the judgement of the model
 unfoldable pub judged : Question → Model → Judgement
-judged q m = acceptedThen (checked q) (modelJudged q m)
+judged q m = acceptedThen (checked q) Refused (modelJudged q m)

@@ -2,9 +2,9 @@
 use crate::holding::does_hold;
 use crate::models::Model;
 use crate::models::is_model;
+use outcome::Check;
+use outcome::Refusal;
 use question::Question;
-use question::Refusal;
-use question::TableCheck;
 use question::check;
 ghost use mathlib.Core.Path.{_≡_};
 ghost use Prim.Native.Nat.{_≤_};
@@ -57,7 +57,7 @@ pub fn judge(q: Question, m: Model) -> Judgement
 {
     let table = check(q);
     match table {
-        TableCheck::Refused(refusal) => Judgement::Refused(refusal),
-        TableCheck::Accepted => judge_model(q, m),
+        Check::Refused(refusal) => Judgement::Refused(refusal),
+        Check::Accepted => judge_model(q, m),
     }
 }

@@ -6,7 +6,7 @@ use native.Mathlib.Omega.{arith}
 use native.Mathlib.Numerals.{add-one}
 use lib.ListN.{length, getD, drop, take, set, length-drop, length-append, drop-of-length-le}
 use lib.Seq.{length-take-le, drop-cons, set-at, take-suc, append-snoc, drop-append-seam, take-append-seam, take-all, drop-drop}
-use Rattle.outcome.specs.Over.{over}
+use Rattle.outcome.specs.Writes.{over}
 
 -- one store at the front
 pub first-stored : (old : List ℕ) (v a : ℕ) → v ≡ a → 1 ≤ length old → set old 0 v ≡ over (a ∷ []) old

@@ -11,19 +11,15 @@ use Rattle.question.specs.declared.statements.Statement.{Statement}
 use Rattle.question.specs.declared.questions.Question.{Question}
 use Rattle.question.specs.declared.admissions.NameTest.{NameTest}
 use Rattle.question.specs.declared.admissions.NameTest.the-variants.{Declared, Undeclared}
-use Rattle.question.specs.declared.refusals.Refusal.{Refusal}
-use Rattle.question.specs.declared.checks.TableCheck.{TableCheck}
-use Rattle.question.specs.declared.checks.TableCheck.the-variants.{Accepted, Refused}
+use Rattle.outcome.specs.declared.checks.Check.{Check}
+use Rattle.outcome.specs.declared.checks.Check.the-variants.{Accepted, Refused}
 use Rattle.question.specs.Limits.{maxElements, maxSets, maxStatements, maxTerms}
-use Rattle.question.specs.Refusals.{refusal, tooManyNames, tooManyStatements}
+use Rattle.outcome.specs.Refusals.{refusal, tooManyNames, tooManyStatements}
+use Rattle.outcome.proofs.CheckLaws.{refused-accepted}
 use Rattle.question.specs.Statements.{makesWitness}
 use Rattle.question.specs.Questions.{statements, witness, witnesses, termsOf}
 use Rattle.question.specs.Admissions.{nameTest, oneTooMany, namesThen, admission}
 use Rattle.question.specs.Checks.{admittedThen, statementsChecked, checked, AllDeclared, IsAccepted}
-
--- a refusal is no acceptance
-pub refused-accepted : {A : Type 0} {r : Refusal} → Refused r ≡ Accepted → A
-refused-accepted e = let z : _≡_ {A = ℕ} 0 1 = cc in absurd (omega arith)
 
 -- a statement that is not one too many keeps T within its limit, and the other way round
 module _ (t : ℕ) (s : Statement) where
@@ -50,7 +46,7 @@ module _ (E S : ℕ) where
   accepted-keeps i t [] h e = (tt, omega arith)
   accepted-keeps i t (s ∷ ss) h e = go (nameTest E S s) (oneTooMany t s) refl refl e (λ k. accepted-keeps (suc i) (t + witness s) ss k)
     where
-      rest : TableCheck
+      rest : Check
       rest = statementsChecked E S (suc i) (t + witness s) ss
 
       go : (n : NameTest) (b : Bool) → nameTest E S s ≡ n → oneTooMany t s ≡ b → admittedThen i (namesThen n b) rest ≡ Accepted →

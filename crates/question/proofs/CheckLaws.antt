@@ -5,8 +5,8 @@ use native.Mathlib.Numerals.{add-one}
 use lib.ListN.{length, getD, drop}
 use Rattle.question.specs.declared.questions.Record.{Record}
 use Rattle.question.specs.declared.questions.Question.{Question}
-use Rattle.question.specs.declared.checks.TableCheck.{TableCheck}
-use Rattle.question.specs.declared.checks.TableCheck.the-variants.{Accepted}
+use Rattle.outcome.specs.declared.checks.Check.{Check}
+use Rattle.outcome.specs.declared.checks.Check.the-variants.{Accepted}
 use Rattle.question.specs.Questions.{statements, witness}
 use Rattle.question.specs.Admissions.{admission}
 use Rattle.question.specs.Checks.{admittedThen, statementsChecked}
@@ -14,7 +14,7 @@ use Rattle.question.proofs.StatementsLaws.{statements-at, statements-en
 
 module _ (q : Question) where
   -- the check from the index i on, where t terms stand
-  abbrev pub checkFrom : ℕ → ℕ → TableCheck
+  abbrev pub checkFrom : ℕ → ℕ → Check
   checkFrom i t = statementsChecked (q .elements) (q .sets) i t (drop i (statements q))
 
   pub turn : (i t : ℕ) (d : Record) → i < q .count → i < length (q .table) →

@@ -3,9 +3,9 @@ use Prim.Native.Nat.{ℕ, suc, _<_}
 use mathlib.Core.Path.{_≡_, refl, ap, ap₂, subst, _∙_}
 use mathlib.Core.Bool.{Bool, true, false, not, _&&_, _||_, Bool·beq, cond}
 use mathlib.Core.List.{List, [], _∷_, map}
-use native.Mathlib.Omega.{arith}
 use borrow.Author.Tests.{ltb-true}
 use lib.Dec.{T, eqb}
+use Rattle.outcome.proofs.Never.{never}
 use Rattle.question.specs.declared.names.ElementName.{ElementName}
 use Rattle.question.specs.declared.names.SetName.{SetName}
 use Rattle.question.specs.declared.statements.Statement.{Statement}
@@ -63,7 +63,7 @@ module _ (A B : Assignment) (size : A .size ≡ B .size) where
         go : (b : Bool) → declared E S n ≡ b → cond b (leftmost (suc at) (map (declared E S) ns)) (Undeclared at) ≡ Declared →
             (leftmost (suc at) (map (declared E S) ns) ≡ Declared → AgreeAll ns) → AgreeAll (n ∷ ns)
         go true p e rest = (agree n p, rest e)
-        go false p e rest = let z : _≡_ {A = ℕ} 0 1 = cc in absurd (omega arith)
+        go false p e rest = never cc
 
     pub hold-same : (ss : List Statement) → AllDeclared E S ss → AllHold A ss → AllHold B ss
     hold-same [] d h = tt

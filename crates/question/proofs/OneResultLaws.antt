@@ -1,7 +1,6 @@
 -- Each public contract of this crate leaves one result.
 use Rattle.outcome.specs.OneResult.{OneResult}
 use Rattle.outcome.proofs.OneLaw.{both}
-use Rattle.question.proofs.refusals.Refusal.new.Reads as new
 use Rattle.question.proofs.questions.Question.empty.Reads as empty
 use Rattle.question.proofs.statements.Statement.tag.Reads as tag
 use Rattle.question.proofs.admissions.name_test.Reads as name-test
@@ -9,9 +8,6 @@ use Rattle.question.proofs.admissions.admit.Reads as admit
 use Rattle.question.proofs.checks.witness_of.Reads as witness-of
 use Rattle.question.proofs.checks.check.Reads as check
 use Rattle.question.proofs.checks.terms.Reads as terms
-
-new-one : OneResult new.Learnt
-new-one κs given x y s t = both
 
 empty-one : OneResult empty.Learnt
 empty-one κs given x y s t = both

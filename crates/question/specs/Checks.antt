@@ -9,26 +9,26 @@ use Rattle.question.specs.declared.questions.Question.{Question}
 use Rattle.question.specs.declared.admissions.Admission.{Admission}
 use Rattle.question.specs.declared.admissions.Admission.the-variants.{Admitted, Undeclared, TooManyTerms}
 use Rattle.question.specs.declared.admissions.NameTest.the-variants.{Declared}
-use Rattle.question.specs.declared.checks.TableCheck.{TableCheck}
-use Rattle.question.specs.declared.checks.TableCheck.the-variants.{Accepted, Refused}
+use Rattle.outcome.specs.declared.checks.Check.{Check}
+use Rattle.outcome.specs.declared.checks.Check.the-variants.{Accepted, Refused}
 use Rattle.question.specs.Limits.{maxElements, maxSets, maxStatements, maxTerms}
-use Rattle.question.specs.Refusals.{refusal, tooManyNames, nameNotDeclared, tooManyStatements, tooManyTerms}
+use Rattle.outcome.specs.Refusals.{refusal, tooManyNames, nameNotDeclared, tooManyStatements, tooManyTerms}
 use Rattle.question.specs.Questions.{statements, witness, termsOf}
 use Rattle.question.specs.Admissions.{nameTest, admission}
 
 -- what follows where a statement is admitted, else its refusal at the index i
-abbrev pub admittedThen : ℕ → Admission → TableCheck → TableCheck
+abbrev pub admittedThen : ℕ → Admission → Check → Check
 admittedThen i Admitted rest = rest
 admittedThen i (Undeclared at) rest = Refused (refusal nameNotDeclared i)
 admittedThen i TooManyTerms rest = Refused (refusal tooManyTerms i)
 
 -- statement by statement from the index i on, where t terms stand
-unfoldable pub statementsChecked : ℕ → ℕ → ℕ → ℕ → List Statement → TableCheck
+unfoldable pub statementsChecked : ℕ → ℕ → ℕ → ℕ → List Statement → Check
 statementsChecked E S i t [] = Accepted
 statementsChecked E S i t (s ∷ ss) = admittedThen i (admission E S t s) (statementsChecked E S (suc i) (t + witness s) ss)
 
 -- 5, then 7 (place 0), then statement by statement 6, 8 (place its index)
-unfoldable pub checked : Question → TableCheck
+unfoldable pub checked : Question → Check
 checked q =
     cond (ltb maxElements (q .elements) || ltb maxSets (q .sets)) (Refused (refusal tooManyNames 0))
     (cond (ltb maxStatements (q .count)) (Refused (refusal tooManyStatements 0))
@@ -46,8 +46,3 @@ pub record IsAccepted (q : Question) : Type 0 where
   pub few-statements : q .count ≤ maxStatements
   pub all-declared : AllDeclared (q .elements) (q .sets) (statements q)
   pub few-terms : termsOf q ≤ maxTerms
-
--- a lent buffer where the table is accepted; a refused call leaves it as it was
-abbrev pub checkedOver : TableCheck → List ℕ → List ℕ → List ℕ
-checkedOver Accepted new old = new
-checkedOver (Refused r) new old = old

@@ -1,6 +1,5 @@
 -- The definitions that the contracts cite, in the order of the data's way.
 pub mod Limits
-pub mod Refusals
 pub mod Statements
 pub mod Questions
 pub mod Admissions

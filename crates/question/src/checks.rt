@@ -2,18 +2,14 @@
 use crate::admissions::Admission;
 use crate::admissions::admit;
 use crate::questions::Question;
-use crate::refusals::Refusal;
 use crate::statements::Statement;
+use outcome::Check;
+use outcome::Refusal;
 ghost use mathlib.Core.Path.{_≡_};
 ghost use Prim.Native.Nat.{_≤_};
 ghost use Rattle.question.specs.Limits.{maxStatements};
 ghost use Rattle.question.specs.Questions.{statements, witness, termsOf};
 ghost use Rattle.question.specs.Checks.{statementsChecked, checked};
-
-pub enum TableCheck {
-    Accepted,
-    Refused(Refusal),
-}
 
 // How many witnesses a statement makes.
 pub fn witness_of(s: Statement) -> usize
@@ -24,7 +20,7 @@ pub fn witness_of(s: Statement) -> usize
 }
 
 // Statement by statement: 6, then 8, at its index.
-fn check_statements(q: Question) -> TableCheck
+fn check_statements(q: Question) -> Check
     requires { ⌜ q .count ≤ maxStatements ⌝ }
     ensures { λ r. ⌜ r ≡ statementsChecked (q .elements) (q .sets) 0 (q .elements) (statements q) ⌝ }
 {
@@ -38,31 +34,31 @@ fn check_statements(q: Question) -> TableCheck
         let s = entry.statement;
         match admit(s, elements, sets, terms) {
             Admission::Undeclared(_) => {
-                return TableCheck::Refused(Refusal::new(Refusal::NAME_NOT_DECLARED, i));
+                return Check::Refused(Refusal::new(Refusal::NAME_NOT_DECLARED, i));
             }
             Admission::TooManyTerms => {
-                return TableCheck::Refused(Refusal::new(Refusal::TOO_MANY_TERMS, i));
+                return Check::Refused(Refusal::new(Refusal::TOO_MANY_TERMS, i));
             }
             Admission::Admitted => {}
         }
         terms += witness_of(s);
         i += 1;
     }
-    TableCheck::Accepted
+    Check::Accepted
 }
 
 // The check of a table handed in: 5, then 7, at place 0; then statement by statement.
-pub fn check(q: Question) -> TableCheck
+pub fn check(q: Question) -> Check
     ensures { λ r. ⌜ r ≡ checked q ⌝ }
 {
     if Question::MAX_ELEMENTS < q.elements {
-        return TableCheck::Refused(Refusal::new(Refusal::TOO_MANY_NAMES, 0));
+        return Check::Refused(Refusal::new(Refusal::TOO_MANY_NAMES, 0));
     }
     if Question::MAX_SETS < q.sets {
-        return TableCheck::Refused(Refusal::new(Refusal::TOO_MANY_NAMES, 0));
+        return Check::Refused(Refusal::new(Refusal::TOO_MANY_NAMES, 0));
     }
     if Question::MAX_STATEMENTS < q.count {
-        return TableCheck::Refused(Refusal::new(Refusal::TOO_MANY_STATEMENTS, 0));
+        return Check::Refused(Refusal::new(Refusal::TOO_MANY_STATEMENTS, 0));
     }
     check_statements(q)
 }

@@ -10,17 +10,16 @@ use lib.ListN.{length, drop, length-append, length-drop}
 use Rattle.question.specs.declared.statements.Statement.{Statement}
 use Rattle.question.specs.declared.questions.Question.{Question}
 use Rattle.question.specs.declared.admissions.Admission.the-variants.{Admitted}
-use Rattle.question.specs.declared.checks.TableCheck.the-variants.{Accepted as AcceptedTable}
+use Rattle.outcome.specs.declared.checks.Check.the-variants.{Accepted}
 use Rattle.question.specs.Limits.{maxElements, maxSets, maxStatements}
-use Rattle.question.specs.Refusals.{refusal, bytesAfterEnd}
+use Rattle.outcome.specs.Refusals.{refusal, bytesAfterEnd}
 use Rattle.question.specs.Questions.{witness, witnesses, termsOf}
 use Rattle.question.specs.Admissions.{admission}
 use Rattle.question.specs.Checks.{statementsChecked}
-use Rattle.field.proofs.Never.{never}
+use Rattle.outcome.proofs.Never.{never}
 use Rattle.question_file.specs.declared.steps.Next.{Next}
 use Rattle.question_file.specs.declared.steps.Next.the-variants.{More, End, Refused}
 use Rattle.question_file.specs.declared.steps.Step.{Step}
-use Rattle.question_file.specs.declared.reads.FileCheck.the-variants.{Accepted}
 use Rattle.question_file.specs.Bodies.{bodyOf}
 use Rattle.question_file.specs.Bytes.{namesBytes, statementBytes, statementsBytes, endBytes, fileBytes}
 use Rattle.question_file.specs.Steps.{declaring, added, fieldStep}
@@ -49,7 +48,7 @@ pub record WholeFile (bytes : List ℕ) (q : Question) : Type 0 where
   pub written : bytes ≡ fileBytes E S ss
 
 -- one statement more that is admitted
-checked-snoc : (E S i t : ℕ) (ss : List Statement) (s : Statement) → statementsChecked E S i t ss ≡ AcceptedTable → admission E S (t + witnesses ss) s ≡ Admitted → statementsChecked E S i t (ss ++ (s ∷ [])) ≡ AcceptedTable
+checked-snoc : (E S i t : ℕ) (ss : List Statement) (s : Statement) → statementsChecked E S i t ss ≡ Accepted → admission E S (t + witnesses ss) s ≡ Admitted → statementsChecked E S i t (ss ++ (s ∷ [])) ≡ Accepted
 unfolding statementsChecked witnesses
 checked-snoc E S i t [] s e a = let none : t + 0 ≡ t = omega arith in rw (sym (ap (λ n. admission E S n s) none) ∙ a)
 checked-snoc E S i t (r ∷ ss) s e a =

@@ -9,7 +9,7 @@ use lib.Seq.{set-at, take-at}
 use Rattle.question.specs.declared.statements.Statement.{Statement}
 use Rattle.question.specs.declared.questions.Record.{Record}
 use Rattle.question.specs.declared.questions.Question.{Question}
-use Rattle.question.specs.declared.checks.TableCheck.the-variants.{Accepted}
+use Rattle.outcome.specs.declared.checks.Check.the-variants.{Accepted}
 use Rattle.question.specs.Limits.{maxElements, maxSets, maxStatements}
 use Rattle.question.specs.Questions.{idle, emptyQuestion, statements, witnesses, termsOf}
 use Rattle.question.specs.Checks.{statementsChecked, checked}

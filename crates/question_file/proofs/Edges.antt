@@ -5,12 +5,12 @@ use mathlib.Core.List.{List, [], _∷_, _++_}
 use lib.ListN.{length, replicate}
 use Rattle.question.specs.declared.statements.Statement.{Statement}
 use Rattle.question.specs.declared.statements.Statement.the-variants.{In, SetsDiffer, Single, Union}
-use Rattle.question.specs.Refusals.{refusal, dataEnds, tagUnknown, tagOutOfPlace, tooManyNames, tooManyStatements, tooManyTerms, bytesAfterEnd}
+use Rattle.outcome.specs.Refusals.{refusal, dataEnds, tagUnknown, tagOutOfPlace, tooManyNames, tooManyStatements, tooManyTerms, bytesAfterEnd}
 use Rattle.question.specs.Questions.{statements, witness, witnesses, termsOf}
 use Rattle.question.specs.Admissions.{admission}
 use Rattle.field.specs.Tags.{lengthIn}
 use Rattle.field.specs.Heads.{headOf}
-use Rattle.question_file.specs.declared.reads.FileCheck.the-variants.{Accepted, Refused}
+use Rattle.outcome.specs.declared.checks.Check.the-variants.{Accepted, Refused}
 use Rattle.question_file.specs.Bodies.{elementName, setName, statementOf}
 use Rattle.question_file.specs.Bytes.{statementsBytes, fileBytes}
 use Rattle.question_file.specs.Frames.{framed}

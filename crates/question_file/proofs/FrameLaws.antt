@@ -8,13 +8,13 @@ use borrow.Author.Tests.{ltb-false, le-ltb, not-false}
 use lib.Dec.{ltb}
 use lib.ListN.{length, getD, drop}
 use lib.Seq.{getD-drop}
-use Rattle.question.specs.Refusals.{dataEnds, tagUnknown, tagOutOfPlace, wrongLength}
+use Rattle.outcome.specs.Refusals.{dataEnds, tagUnknown, tagOutOfPlace, wrongLength}
 use Rattle.field.specs.declared.tags.File.the-variants.{Question as QuestionFile}
 use Rattle.field.specs.declared.heads.Head.{Head}
 use Rattle.field.specs.declared.heads.Head.the-variants.{Short, Whole}
 use Rattle.field.specs.Tags.{lengthOf, isKnown, isAllowed}
 use Rattle.field.specs.Heads.{headOf}
-use Rattle.field.proofs.Never.{never}
+use Rattle.outcome.proofs.Never.{never}
 use Rattle.question_file.specs.declared.frames.Frame.the-variants.{Sound, Refused}
 use Rattle.question_file.specs.Frames.{inPlace, framed, headFramed, frameOf}
 

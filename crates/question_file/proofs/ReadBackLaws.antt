@@ -8,14 +8,13 @@ use lib.ListN.{length, drop, length-append, length-drop}
 use Rattle.question.specs.declared.statements.Statement.{Statement}
 use Rattle.question.specs.declared.admissions.Admission.{Admission}
 use Rattle.question.specs.declared.admissions.Admission.the-variants.{Admitted, Undeclared, TooManyTerms}
-use Rattle.question.specs.declared.checks.TableCheck.the-variants.{Accepted as AcceptedTable}
+use Rattle.outcome.specs.declared.checks.Check.the-variants.{Accepted}
 use Rattle.question.specs.Limits.{maxStatements}
 use Rattle.question.specs.Questions.{witness, witnesses}
 use Rattle.question.specs.Admissions.{admission}
 use Rattle.question.specs.Checks.{admittedThen, statementsChecked}
-use Rattle.field.proofs.Never.{never}
+use Rattle.outcome.proofs.Never.{never}
 use Rattle.question_file.specs.declared.steps.Next.the-variants.{End}
-use Rattle.question_file.specs.declared.reads.FileCheck.the-variants.{Accepted}
 use Rattle.question_file.specs.declared.reads.ReadQuestion.{ReadQuestion}
 use Rattle.question_file.specs.Bodies.{bodyOf}
 use Rattle.question_file.specs.Bytes.{namesBytes, statementBytes, statementsBytes, endBytes, fileBytes}
@@ -27,11 +26,11 @@ use Rattle.question_file.proofs.ReadLaws.{past, go-on, stop-end}
 use Rattle.question_file.proofs.AsReadLaws.{declaring-read, as-read-added, as-read-terms, Sound}
 
 -- an accepted list of statements: its first is admitted, and the rest is accepted
-pub admitted-first : (E S i t : ℕ) (s : Statement) (ss : List Statement) → statementsChecked E S i t (s ∷ ss) ≡ AcceptedTable → (admission E S t s ≡ Admitted) × (statementsChecked E S (suc i) (t + witness s) ss ≡ AcceptedTable)
+pub admitted-first : (E S i t : ℕ) (s : Statement) (ss : List Statement) → statementsChecked E S i t (s ∷ ss) ≡ Accepted → (admission E S t s ≡ Admitted) × (statementsChecked E S (suc i) (t + witness s) ss ≡ Accepted)
 unfolding statementsChecked
 admitted-first E S i t s ss e = go (admission E S t s) refl e
   where
-    go : (a : Admission) → admission E S t s ≡ a → admittedThen i a (statementsChecked E S (suc i) (t + witness s) ss) ≡ AcceptedTable → (admission E S t s ≡ Admitted) × (statementsChecked E S (suc i) (t + witness s) ss ≡ AcceptedTable)
+    go : (a : Admission) → admission E S t s ≡ a → admittedThen i a (statementsChecked E S (suc i) (t + witness s) ss) ≡ Accepted → (admission E S t s ≡ Admitted) × (statementsChecked E S (suc i) (t + witness s) ss ≡ Accepted)
     go Admitted p e = (p, e)
     go (Undeclared at) p e = never cc
     go TooManyTerms p e = never cc
@@ -69,7 +68,7 @@ module _ (bytes : List ℕ) (E S : ℕ) where
         go-on bytes at (asRead E S done) n m e next (ap (λ x. x .next) step) ∙ ap (λ x. readFields m bytes next (x .question)) step
 
   read-on : (todo done : List Statement) (at n i : ℕ) → (at ≡ 0 → ⊥) → drop at bytes ≡ statementsBytes todo ++ endBytes → length done + length todo ≤ maxStatements → length todo < n →
-      statementsChecked E S i (E + witnesses done) todo ≡ AcceptedTable → readFields n bytes at (asRead E S done) ≡ whole (done ++ todo)
+      statementsChecked E S i (E + witnesses done) todo ≡ Accepted → readFields n bytes at (asRead E S done) ≡ whole (done ++ todo)
   unfolding statementsBytes
   read-on [] done at n i later rest room enough ok = at-end done at n (n - 1) (omega arith) later rest ∙ ap whole (sym (append-nil done))
   read-on (s ∷ todo) done at n i later rest room enough ok =

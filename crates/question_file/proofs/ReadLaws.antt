@@ -6,14 +6,14 @@ use native.Mathlib.Omega.{arith}
 use borrow.Author.Tests.{lt-ltb, le-ltb}
 use lib.ListN.{length, drop, length-append, length-drop}
 use lib.Seq.{drop-append-seam, drop-drop}
-use Rattle.question.specs.declared.refusals.Refusal.{Refusal}
+use Rattle.outcome.specs.declared.refusals.Refusal.{Refusal}
 use Rattle.question.specs.declared.questions.Question.{Question}
 use Rattle.question.specs.Limits.{maxStatements}
-use Rattle.question.specs.Refusals.{refusal, bytesAfterEnd}
+use Rattle.outcome.specs.Refusals.{refusal, bytesAfterEnd}
 use Rattle.question_file.specs.declared.steps.Next.{Next}
 use Rattle.question_file.specs.declared.steps.Next.the-variants.{More, End, Refused}
 use Rattle.question_file.specs.declared.steps.Step.{Step}
-use Rattle.question_file.specs.declared.reads.FileCheck.the-variants.{Accepted}
+use Rattle.outcome.specs.declared.checks.Check.the-variants.{Accepted}
 use Rattle.question_file.specs.Bytes.{statementBytes}
 use Rattle.question_file.specs.Steps.{declaring, fieldStep}
 use Rattle.question_file.specs.Reads.{refusedFile, endedFile, readFields, maxFields, readQuestion}

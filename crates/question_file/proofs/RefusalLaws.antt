@@ -6,12 +6,12 @@ use mathlib.Core.List.{List}
 use native.Mathlib.Omega.{arith}
 use lib.Dec.{eqb, ltb, leb}
 use lib.ListN.{length, drop, getD}
-use Rattle.question.specs.declared.refusals.Refusal.{Refusal}
+use Rattle.outcome.specs.declared.refusals.Refusal.{Refusal}
 use Rattle.question.specs.declared.questions.Question.{Question}
 use Rattle.question.specs.declared.admissions.Admission.{Admission}
 use Rattle.question.specs.declared.admissions.Admission.the-variants.{Admitted, Undeclared, TooManyTerms}
 use Rattle.question.specs.Limits.{maxElements, maxSets, maxStatements}
-use Rattle.question.specs.Refusals.{refusal, dataEnds, tagUnknown, tagOutOfPlace, wrongLength, bytesAfterEnd, tooManyNames, nameNotDeclared, tooManyStatements, tooManyTerms}
+use Rattle.outcome.specs.Refusals.{refusal, dataEnds, tagUnknown, tagOutOfPlace, wrongLength, bytesAfterEnd, tooManyNames, nameNotDeclared, tooManyStatements, tooManyTerms}
 use Rattle.question.specs.Questions.{termsOf}
 use Rattle.question.specs.Admissions.{admission}
 use Rattle.field.specs.declared.heads.Head.{Head}
@@ -19,7 +19,7 @@ use Rattle.field.specs.declared.heads.Head.the-variants.{Short, Whole}
 use Rattle.field.specs.declared.tags.File.the-variants.{Question as QuestionFile}
 use Rattle.field.specs.Tags.{lengthOf, isKnown, isAllowed}
 use Rattle.field.specs.Heads.{headOf}
-use Rattle.field.proofs.Never.{never}
+use Rattle.outcome.proofs.Never.{never}
 use Rattle.question_file.specs.declared.bodies.Made.{Made}
 use Rattle.question_file.specs.declared.bodies.Made.the-variants.{Stated, NotStated}
 use Rattle.question_file.specs.declared.frames.Frame.{Frame}
@@ -27,7 +27,7 @@ use Rattle.question_file.specs.declared.frames.Frame.the-variants.{Sound
 use Rattle.question_file.specs.declared.steps.Next.{Next}
 use Rattle.question_file.specs.declared.steps.Next.the-variants.{More, End, Refused as RefusedField}
 use Rattle.question_file.specs.declared.steps.Step.{Step}
-use Rattle.question_file.specs.declared.reads.FileCheck.the-variants.{Accepted, Refused}
+use Rattle.outcome.specs.declared.checks.Check.the-variants.{Accepted, Refused}
 use Rattle.question_file.specs.Bodies.{statementOf}
 use Rattle.question_file.specs.Frames.{inPlace, framed, headFramed, frameOf}
 use Rattle.question_file.specs.Steps.{declaring, refusedAt, more, added, namesStep, admittedStep, statementStep, madeStep, taken, framedStep, fieldStep}

@@ -7,17 +7,16 @@ use native.Mathlib.Omega.{arith}
 use lib.ListN.{length, take}
 use lib.Seq.{take-append-seam}
 use Rattle.question.specs.declared.questions.Question.{Question}
-use Rattle.question.specs.declared.checks.TableCheck.the-variants.{Accepted as AcceptedTable}
+use Rattle.outcome.specs.declared.checks.Check.the-variants.{Accepted}
 use Rattle.question.specs.Limits.{maxStatements}
 use Rattle.question.specs.Questions.{statements}
 use Rattle.question.specs.Checks.{checked}
 use Rattle.question.proofs.StatementsLaws.{statements-length}
 use Rattle.question.proofs.AcceptedLaws.{accepted}
-use Rattle.outcome.specs.Over.{over}
+use Rattle.outcome.specs.Writes.{over}
 use Rattle.outcome.specs.Calls.{Call}
-use Rattle.question_file.specs.declared.reads.FileCheck.the-variants.{Accepted}
 use Rattle.question_file.specs.declared.reads.ReadQuestion.{ReadQuestion}
-use Rattle.question_file.specs.declared.writes.Written.the-variants.{Bytes}
+use Rattle.outcome.specs.declared.writes.Written.the-variants.{Count}
 use Rattle.question_file.specs.Bytes.{fileBytes, questionBytes}
 use Rattle.question_file.specs.Reads.{readQuestion, asRead}
 use Rattle.question_file.specs.Writes.{written, writtenOver}
@@ -33,7 +32,7 @@ abbrev pub back : Question → ReadQuestion
 back q = record { outcome = Accepted; question = asRead (q .elements) (q .sets) (statements q) }
 
 -- an accepted question, written and read back
-pub read-back : (q : Question) → checked q ≡ AcceptedTable → readQuestion (questionBytes q) ≡ back q
+pub read-back : (q : Question) → checked q ≡ Accepted → readQuestion (questionBytes q) ≡ back q
 read-back q e = file-read-back (q .elements) (q .sets) (statements q) (checked-sound q e)
 
 -- the same names and statements
@@ -44,7 +43,7 @@ pub record Same (q r : Question) : Type 0 where
   pub stated : statements r ≡ statements q
 
 -- (a table has 64 entries)
-pub same-back : (q : Question) → checked q ≡ AcceptedTable → length (q .table) ≡ maxStatements → Same q (readQuestion (questionBytes q) .question)
+pub same-back : (q : Question) → checked q ≡ Accepted → length (q .table) ≡ maxStatements → Same q (readQuestion (questionBytes q) .question)
 same-back q e long =
     rw (read-back q e) (record {
       elements = refl;
@@ -55,7 +54,7 @@ same-back q e long =
 
 -- an accepted file: its question is an accepted table,
 module _ (bytes : List ℕ) (e : readQuestion bytes .outcome ≡ Accepted) where
-  pub read-checked : checked (readQuestion bytes .question) ≡ AcceptedTable
+  pub read-checked : checked (readQuestion bytes .question) ≡ Accepted
   read-checked = let f = accepted-file bytes e in ap checked (f .made) ∙ sound-checked (f .E) (f .S) (f .ss) (f .sound)
 
   -- its unused entries are "0 = 0",
@@ -72,7 +71,7 @@ module _ (bytes : List ℕ) (e : readQuestion bytes .outcome ≡ Accepted) where
       ap questionBytes (f .made) ∙ ap (fileBytes (f .E) (f .S)) (as-read-statements (f .E) (f .S) (f .ss) (f .sound .few-statements)) ∙ sym (f .written)
 
 -- the same, of buffers: what is written of n bytes is read back,
-back-from-buffer : (q : Question) (n : ℕ) (old new bytes : List ℕ) → written q (length old) ≡ Bytes n → new ≡ writtenOver q old → bytes ≡ take n new → readQuestion bytes ≡ back q
+back-from-buffer : (q : Question) (n : ℕ) (old new bytes : List ℕ) → written q (length old) ≡ Count n → new ≡ writtenOver q old → bytes ≡ take n new → readQuestion bytes ≡ back q
 back-from-buffer q n old new bytes w b t =
     let k = written-writable q (length old) n w in
     let same : bytes ≡ questionBytes q = t ∙ ap₂ take (k .1) (b ∙ written-over q old (k .0)) ∙ take-append-seam (questionBytes q) _ in
@@ -80,19 +79,19 @@ back-from-buffer q n old new bytes w b t =
 
 -- and what is read is written again
 again-in-buffer : (bytes old : List ℕ) (q : Question) → readQuestion bytes .outcome ≡ Accepted → q ≡ readQuestion bytes .question → length bytes ≤ length old →
-    (written q (length old) ≡ Bytes (length bytes)) × (writtenOver q old ≡ over bytes old)
+    (written q (length old) ≡ Count (length bytes)) × (writtenOver q old ≡ over bytes old)
 again-in-buffer bytes old q e s h =
     let same : questionBytes q ≡ bytes = ap questionBytes s ∙ written-again bytes e in
     let k : Writable q (length old) = (ap checked s ∙ read-checked bytes e, omega (arith, ap length same)) in
-    (writable-written q (length old) k ∙ ap (λ l. Bytes (length l)) same, written-over q old k ∙ ap (λ l. over l old) same)
+    (writable-written q (length old) k ∙ ap (λ l. Count (length l)) same, written-over q old k ∙ ap (λ l. over l old) same)
 
 -- what a call of `write_question` wrote, a call of `read_question` gives back
-pub written-then-read : (w : Call write.Learnt) (r : Call read.Learnt) (n : ℕ) → w .result ≡ Bytes n → now (r .given .0) ≡ take n (now (w .exit .1 .0)) → r .result ≡ back (w .given .0)
+pub written-then-read : (w : Call write.Learnt) (r : Call read.Learnt) (n : ℕ) → w .result ≡ Count n → now (r .given .0) ≡ take n (now (w .exit .1 .0)) → r .result ≡ back (w .given .0)
 written-then-read w r n e b = r .fits ∙ back-from-buffer (w .given .0) n (now (w .given .1 .0)) (now (w .exit .1 .0)) (now (r .given .0)) (sym (w .fits .0) ∙ e) (w .fits .1) b
 
 -- what a call of `read_question` accepted, a call of `write_question` with enough room writes again
 pub read-then-written : (r : Call read.Learnt) (w : Call write.Learnt) → r .result .outcome ≡ Accepted → w .given .0 ≡ r .result .question → length (now (r .given .0)) ≤ length (now (w .given .1 .0)) →
-    (w .result ≡ Bytes (length (now (r .given .0)))) × (now (w .exit .1 .0) ≡ over (now (r .given .0)) (now (w .given .1 .0)))
+    (w .result ≡ Count (length (now (r .given .0)))) × (now (w .exit .1 .0) ≡ over (now (r .given .0)) (now (w .given .1 .0)))
 read-then-written r w e s h =
     let k = again-in-buffer (now (r .given .0)) (now (w .given .1 .0)) (w .given .0) (sym (ap (λ x. x .outcome) (r .fits)) ∙ e) (s ∙ ap (λ x. x .question) (r .fits)) h in
     (w .fits .0 ∙ k .0, w .fits .1 ∙ k .1)

@@ -10,7 +10,7 @@ use Rattle.question.specs.declared.statements.Statement.{Statement}
 use Rattle.question.specs.declared.questions.Question.{Question}
 use Rattle.question.specs.declared.admissions.Admission.{Admission}
 use Rattle.question.specs.Limits.{maxElements, maxSets, maxStatements}
-use Rattle.question.specs.Refusals.{tooManyStatements}
+use Rattle.outcome.specs.Refusals.{tooManyStatements}
 use Rattle.question.specs.Questions.{termsOf}
 use Rattle.question.specs.Admissions.{admission}
 use Rattle.question_file.specs.declared.bodies.Made.{Made}

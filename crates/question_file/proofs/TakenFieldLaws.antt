@@ -13,7 +13,7 @@ use Rattle.question.specs.declared.questions.Question.{Question}
 use Rattle.question.specs.declared.admissions.Admission.{Admission}
 use Rattle.question.specs.declared.admissions.Admission.the-variants.{Admitted, Undeclared, TooManyTerms}
 use Rattle.question.specs.Limits.{maxElements, maxSets, maxStatements}
-use Rattle.question.specs.Refusals.{tooManyNames, nameNotDeclared, tooManyStatements, tooManyTerms}
+use Rattle.outcome.specs.Refusals.{tooManyNames, nameNotDeclared, tooManyStatements, tooManyTerms}
 use Rattle.question.specs.Statements.{tagOf}
 use Rattle.question.specs.Questions.{termsOf}
 use Rattle.question.specs.Admissions.{admission}
@@ -21,7 +21,7 @@ use Rattle.field.specs.declared.tags.File.the-variants.{Question as QuestionFil
 use Rattle.field.specs.declared.tags.BodyLength.the-variants.{Fixed}
 use Rattle.field.specs.Tags.{lengthOf, isAllowed}
 use Rattle.field.specs.Heads.{fieldBytes}
-use Rattle.field.proofs.Never.{never}
+use Rattle.outcome.proofs.Never.{never}
 use Rattle.field.proofs.HeadLaws.{head-read}
 use Rattle.question_file.specs.declared.bodies.Made.the-variants.{Stated}
 use Rattle.question_file.specs.declared.frames.Frame.{Frame}

@@ -10,25 +10,25 @@ use lib.Dec.{ltb}
 use lib.ListN.{length, length-append}
 use Rattle.question.specs.declared.statements.Statement.{Statement}
 use Rattle.question.specs.declared.questions.Question.{Question}
-use Rattle.question.specs.declared.refusals.Refusal.{Refusal}
-use Rattle.question.specs.declared.checks.TableCheck.{TableCheck}
-use Rattle.question.specs.declared.checks.TableCheck.the-variants.{Accepted, Refused as RefusedTable}
-use Rattle.question.specs.Refusals.{refusal, bufferTooShort}
+use Rattle.outcome.specs.declared.refusals.Refusal.{Refusal}
+use Rattle.outcome.specs.declared.checks.Check.{Check}
+use Rattle.outcome.specs.declared.checks.Check.the-variants.{Accepted, Refused as RefusedTable}
+use Rattle.outcome.specs.Refusals.{refusal, bufferTooShort}
 use Rattle.question.specs.Questions.{statements}
-use Rattle.question.specs.Checks.{checked, checkedOver}
-use Rattle.outcome.specs.Over.{over}
-use Rattle.field.proofs.Never.{never}
-use Rattle.question_file.specs.declared.writes.Written.the-variants.{Bytes, Refused}
+use Rattle.outcome.specs.Writes.{checkedOver, over, checkedThen}
+use Rattle.question.specs.Checks.{checked}
+use Rattle.outcome.proofs.Never.{never}
+use Rattle.outcome.specs.declared.writes.Written.the-variants.{Count, Refused}
 use Rattle.question_file.specs.Bytes.{statementBytes, statementsBytes, questionBytes}
-use Rattle.question_file.specs.Writes.{checkedThen, written, writtenOver}
+use Rattle.question_file.specs.Writes.{written, writtenOver}
 use Rattle.question_file.proofs.BodyLaws.{field}
 use Rattle.question_file.proofs.StatementBytesLaws.{question-length}
 use Rattle.question_file.proofs.AsReadLaws.{checked-sound}
 
-refused-bytes : {A : Type 0} {r : Refusal} {n : ℕ} → Refused r ≡ Bytes n → A
+refused-bytes : {A : Type 0} {r : Refusal} {n : ℕ} → Refused r ≡ Count n → A
 refused-bytes e = never cc
 
-bytes-same : {m n : ℕ} → Bytes m ≡ Bytes n → m ≡ n
+bytes-same : {m n : ℕ} → Count m ≡ Count n → m ≡ n
 bytes-same e = cc
 
 module _ (q : Question) (room : ℕ) where
@@ -36,21 +36,21 @@ module _ (q : Question) (room : ℕ) where
   abbrev pub Writable : Type 0
   Writable = (checked q ≡ Accepted) × (length (questionBytes q) ≤ room)
 
-  pub writable-written : Writable → written q room ≡ Bytes (length (questionBytes q))
+  pub writable-written : Writable → written q room ≡ Count (length (questionBytes q))
   unfolding written
   writable-written w = rw (w .0, le-ltb room (length (questionBytes q)) (w .1))
 
-  pub written-writable : (n : ℕ) → written q room ≡ Bytes n → Writable × (n ≡ length (questionBytes q))
+  pub written-writable : (n : ℕ) → written q room ≡ Count n → Writable × (n ≡ length (questionBytes q))
   unfolding written
   written-writable n e = go (checked q) (ltb room (length (questionBytes q))) refl refl e
     where
-      go : (c : TableCheck) (b : Bool) → checked q ≡ c → ltb room (length (questionBytes q)) ≡ b → checkedThen c (cond b (Refused (refusal bufferTooShort 0)) (Bytes (length (questionBytes q)))) ≡ Bytes n → Writable × (n ≡ length (questionBytes q))
+      go : (c : Check) (b : Bool) → checked q ≡ c → ltb room (length (questionBytes q)) ≡ b → checkedThen c (cond b (Refused (refusal bufferTooShort 0)) (Count (length (questionBytes q)))) ≡ Count n → Writable × (n ≡ length (questionBytes q))
       go (RefusedTable r) b p h e = refused-bytes e
       go Accepted true p h e = refused-bytes e
       go Accepted false p h e = ((p, ltb-false room _ h), sym (bytes-same e))
 
   -- the writer writes exactly where it may
-  pub writes : (written q room ≡ Bytes (length (questionBytes q))) ↔ Writable
+  pub writes : (written q room ≡ Count (length (questionBytes q))) ↔ Writable
   writes = ((λ e. written-writable (length (questionBytes q)) e .0), writable-written)
 
   -- and refuses exactly where it may not
@@ -58,8 +58,8 @@ module _ (q : Question) (room : ℕ) where
   unfolding written
   refuses = ((λ r w. refused-bytes (sym (r .1) ∙ writable-written w)), λ not. go (checked q) (ltb room (length (questionBytes q))) refl refl not)
     where
-      go : (c : TableCheck) (b : Bool) → checked q ≡ c → ltb room (length (questionBytes q)) ≡ b → (Writable → ⊥) →
-          (r : Refusal) × (checkedThen c (cond b (Refused (refusal bufferTooShort 0)) (Bytes (length (questionBytes q)))) ≡ Refused r)
+      go : (c : Check) (b : Bool) → checked q ≡ c → ltb room (length (questionBytes q)) ≡ b → (Writable → ⊥) →
+          (r : Refusal) × (checkedThen c (cond b (Refused (refusal bufferTooShort 0)) (Count (length (questionBytes q)))) ≡ Refused r)
       go (RefusedTable r) b p h not = (r, refl)
       go Accepted true p h not = (refusal bufferTooShort 0, refl)
       go Accepted false p h not = absurd (not (p, ltb-false room _ h))
@@ -75,7 +75,7 @@ module _ (q : Question) (old : List ℕ) where
   unfolding written writtenOver
   refused-over r e = go (checked q) (ltb (length old) (length (questionBytes q))) e
     where
-      go : (c : TableCheck) (b : Bool) → checkedThen c (cond b (Refused (refusal bufferTooShort 0)) (Bytes (length (questionBytes q)))) ≡ Refused r → checkedOver c (cond b old (over (questionBytes q) old)) old ≡ old
+      go : (c : Check) (b : Bool) → checkedThen c (cond b (Refused (refusal bufferTooShort 0)) (Count (length (questionBytes q)))) ≡ Refused r → checkedOver c (cond b old (over (questionBytes q) old)) old ≡ old
       go (RefusedTable r) b e = refl
       go Accepted true e = refl
       go Accepted false e = refused-bytes (sym e)

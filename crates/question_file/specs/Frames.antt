@@ -4,7 +4,7 @@ use mathlib.Core.Bool.{Bool, not, cond, Bool·beq}
 use mathlib.Core.List.{List}
 use lib.Dec.{eqb, ltb}
 use lib.ListN.{length}
-use Rattle.question.specs.Refusals.{dataEnds, tagUnknown, tagOutOfPlace, wrongLength}
+use Rattle.outcome.specs.Refusals.{dataEnds, tagUnknown, tagOutOfPlace, wrongLength}
 use Rattle.field.specs.declared.tags.File.the-variants.{Question as QuestionFile}
 use Rattle.field.specs.declared.heads.Head.{Head}
 use Rattle.field.specs.declared.heads.Head.the-variants.{Short, Whole}

@@ -4,15 +4,15 @@ use mathlib.Core.Bool.{cond}
 use mathlib.Core.List.{List, map, _++_}
 use lib.Dec.{ltb}
 use lib.ListN.{length, drop, replicate}
-use Rattle.question.specs.declared.refusals.Refusal.{Refusal}
+use Rattle.outcome.specs.declared.refusals.Refusal.{Refusal}
 use Rattle.question.specs.declared.statements.Statement.{Statement}
 use Rattle.question.specs.declared.questions.Question.{Question}
 use Rattle.question.specs.Limits.{maxStatements}
-use Rattle.question.specs.Refusals.{refusal, tooManyStatements, bytesAfterEnd}
+use Rattle.outcome.specs.Refusals.{refusal, tooManyStatements, bytesAfterEnd}
 use Rattle.question.specs.Questions.{idle}
 use Rattle.question_file.specs.declared.steps.Next.{Next}
 use Rattle.question_file.specs.declared.steps.Next.the-variants.{More, End, Refused as RefusedField}
-use Rattle.question_file.specs.declared.reads.FileCheck.the-variants.{Accepted, Refused}
+use Rattle.outcome.specs.declared.checks.Check.the-variants.{Accepted, Refused}
 use Rattle.question_file.specs.declared.reads.ReadQuestion.{ReadQuestion}
 use Rattle.question_file.specs.Steps.{declaring, fieldStep}
 

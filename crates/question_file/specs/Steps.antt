@@ -10,7 +10,7 @@ use Rattle.question.specs.declared.questions.Question.{Question}
 use Rattle.question.specs.declared.admissions.Admission.{Admission}
 use Rattle.question.specs.declared.admissions.Admission.the-variants.{Admitted, Undeclared, TooManyTerms}
 use Rattle.question.specs.Limits.{maxElements, maxSets, maxStatements}
-use Rattle.question.specs.Refusals.{refusal, tagUnknown, tooManyNames, nameNotDeclared, tooManyStatements, tooManyTerms}
+use Rattle.outcome.specs.Refusals.{refusal, tagUnknown, tooManyNames, nameNotDeclared, tooManyStatements, tooManyTerms}
 use Rattle.question.specs.Questions.{idle, termsOf}
 use Rattle.question.specs.Admissions.{admission}
 use Rattle.question_file.specs.declared.bodies.Made.{Made}

@@ -3,7 +3,7 @@ use field::File;
 use field::Head;
 use field::head_at;
 use field::length_of;
-use question::Refusal;
+use outcome::Refusal;
 ghost use mathlib.Core.Path.{_≡_};
 ghost use lib.ListN.{drop};
 ghost use Rattle.question_file.specs.Frames.{framed, frameOf};

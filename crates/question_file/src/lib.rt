@@ -6,11 +6,9 @@ mod reads;
 mod steps;
 mod writes;
 
-pub use reads::FileCheck;
 pub use reads::ReadQuestion;
 pub use reads::read_question;
 pub use steps::Next;
 pub use steps::Step;
 pub use steps::read_field;
-pub use writes::Written;
 pub use writes::write_question;

@@ -2,22 +2,18 @@
 use crate::fields::Said;
 use crate::fields::field_at;
 use crate::steps::declare;
+use outcome::Check;
+use outcome::Refusal;
 use question::Question;
 use question::Record;
-use question::Refusal;
 use question::witness_of;
 ghost use mathlib.Core.Path.{_≡_};
-ghost use Rattle.question.specs.Refusals.{refusal};
+ghost use Rattle.outcome.specs.Refusals.{refusal};
 ghost use Rattle.question_file.specs.Reads.{refusedFile, readQuestion};
-
-pub enum FileCheck {
-    Accepted,
-    Refused(Refusal),
-}
 
 // Whether the file is accepted, and its question; where it is refused the question is empty.
 pub struct ReadQuestion {
-    pub outcome: FileCheck,
+    pub outcome: Check,
     pub question: Question,
 }
 
@@ -30,7 +26,7 @@ fn refuse_file(number: u8, place: usize) -> ReadQuestion
     };
     let question = Question::empty();
     ReadQuestion {
-        outcome: FileCheck::Refused(refusal),
+        outcome: Check::Refused(refusal),
         question: question,
     }
 }
@@ -61,7 +57,7 @@ pub fn read_question(bytes: &[u8]) -> ReadQuestion
                     return refuse_file(Refusal::BYTES_AFTER_END, place);
                 }
                 return ReadQuestion {
-                    outcome: FileCheck::Accepted,
+                    outcome: Check::Accepted,
                     question: q,
                 };
             }

@@ -1,9 +1,9 @@
 // One field of a question file: where the next one begins, or that the file ends here, or its refusal.
 use crate::fields::Said;
 use crate::fields::field_at;
+use outcome::Refusal;
 use question::Question;
 use question::Record;
-use question::Refusal;
 use question::Statement;
 use question::terms;
 ghost use mathlib.Core.Path.{_≡_};

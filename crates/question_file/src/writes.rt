@@ -2,27 +2,22 @@
 use crate::bodies::body_length;
 use crate::bodies::name_bytes;
 use field::put_field;
+use outcome::Check;
+use outcome::Refusal;
+use outcome::Written;
 use question::Question;
-use question::Refusal;
 use question::Statement;
-use question::TableCheck;
 use question::check;
 ghost use mathlib.Core.Path.{_≡_};
 ghost use Prim.Native.Nat.{_+_, _≤_};
 ghost use lib.ListN.{length};
-ghost use Rattle.question.specs.declared.checks.TableCheck.the-variants.{Accepted};
+ghost use Rattle.outcome.specs.declared.checks.Check.the-variants.{Accepted};
 ghost use Rattle.question.specs.Limits.{maxStatements};
 ghost use Rattle.question.specs.Questions.{statements};
 ghost use Rattle.question.specs.Checks.{checked};
-ghost use Rattle.outcome.specs.Over.{over, fittedOver};
+ghost use Rattle.outcome.specs.Writes.{over, fittedOver, fitted};
 ghost use Rattle.question_file.specs.Bytes.{statementBytes, statementsBytes, questionBytes};
-ghost use Rattle.question_file.specs.Writes.{fitted, written, writtenOver};
-
-pub enum Written {
-    // How many bytes were written.
-    Bytes(usize),
-    Refused(Refusal),
-}
+ghost use Rattle.question_file.specs.Writes.{written, writtenOver};
 
 // How many bytes the file of a question has.
 fn file_length(q: Question) -> usize
@@ -94,7 +89,7 @@ fn write_accepted(q: Question, buf: &mut [u8]) -> Written
         return Written::Refused(refusal);
     }
     put_question(q, buf);
-    Written::Bytes(length)
+    Written::Count(length)
 }
 
 // The file of a question: the refusals of its table, then 10; a refusal leaves the buffer as it was.
@@ -102,7 +97,7 @@ pub fn write_question(q: Question, buf: &mut [u8]) -> Written
     ensures { λ r. ⌜ (r ≡ written q (length (now (buf .entry)))) × (now (buf .exit) ≡ writtenOver q (now (buf .entry))) ⌝ }
 {
     match check(q) {
-        TableCheck::Refused(refusal) => Written::Refused(refusal),
-        TableCheck::Accepted => write_accepted(q, buf),
+        Check::Refused(refusal) => Written::Refused(refusal),
+        Check::Accepted => write_accepted(q, buf),
     }
 }

@@ -8,12 +8,12 @@ use lib.ListN.{length, getD, drop, length-append, length-map}
 use Rattle.question.specs.declared.statements.Statement.{Statement}
 use Rattle.question.specs.declared.questions.Record.{Record}
 use Rattle.question.specs.declared.questions.Question.{Question}
-use Rattle.outcome.specs.Over.{over}
+use Rattle.outcome.specs.Writes.{over}
 use Rattle.question.specs.Limits.{maxRows}
-use Rattle.question.specs.Refusals.{refusal, bufferTooShort}
+use Rattle.outcome.specs.Refusals.{refusal, bufferTooShort}
 use Rattle.question.specs.Questions.{statements, witness, termsOf}
-use Rattle.question.specs.declared.refusals.Refusal.{Refusal}
-use Rattle.question.specs.declared.checks.TableCheck.the-variants.{Refused as TableRefused}
+use Rattle.outcome.specs.declared.refusals.Refusal.{Refusal}
+use Rattle.outcome.specs.declared.checks.Check.the-variants.{Refused as TableRefused}
 use Rattle.question.specs.Checks.{checked, IsAccepted}
 use Rattle.question.proofs.AcceptedLaws.{accepted}
 use Rattle.question.proofs.StatementsLaws.{statements-at, statements-end}
@@ -22,7 +22,7 @@ use Rattle.theory.specs.Reduction.{rule, rowList}
 use Rattle.theory.proofs.PlaceLaws.{rule-witness}
 use Rattle.theory.proofs.RowListLaws.{rows-few}
 use Rattle.row.specs.Rows.{packRow}
-use Rattle.reduction.specs.declared.reducing.Reduced.the-variants.{Rows, Refused}
+use Rattle.outcome.specs.declared.writes.Written.the-variants.{Count, Refused}
 use Rattle.reduction.specs.Writing.{statementRows}
 use Rattle.reduction.specs.Reducing.{packedRows, reduced, reducedBuffer}
 use Rattle.reduction.proofs.WritingLaws.{rows-written, written-count}
@@ -98,7 +98,7 @@ module _ (q : Question) (old : List ℕ) (is-accepted : IsAccepted q) where
   unfolding reduced
   short-answer h = rw (accepted q .1 is-accepted, lt-ltb (length old) (length (packedRows q)) h)
 
-  pub rows-answer : length (packedRows q) ≤ length old → reduced q (length old) ≡ Rows (length (packedRows q))
+  pub rows-answer : length (packedRows q) ≤ length old → reduced q (length old) ≡ Count (length (packedRows q))
   unfolding reduced
   rows-answer h = rw (accepted q .1 is-accepted, le-ltb (length old) (length (packedRows q)) h)
 

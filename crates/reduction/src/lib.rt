@@ -2,5 +2,4 @@
 mod reducing;
 mod writing;
 
-pub use reducing::Reduced;
 pub use reducing::reduce;

@@ -1,26 +1,21 @@
 // A question's rows into a lent buffer: the refusals of the table, then 10; else the rows in order, and their number.
 use crate::writing::put_statement;
+use outcome::Check;
+use outcome::Refusal;
+use outcome::Written;
 use question::Question;
-use question::Refusal;
 use question::Statement;
-use question::TableCheck;
 use question::check;
 use question::terms;
 use question::witness_of;
 ghost use mathlib.Core.Path.{_≡_};
 ghost use Prim.Native.Nat.{_≤_};
 ghost use lib.ListN.{length};
-ghost use Rattle.outcome.specs.Over.{over};
+ghost use Rattle.outcome.specs.Writes.{over};
 ghost use Rattle.question.specs.Questions.{termsOf};
 ghost use Rattle.question.specs.Checks.{IsAccepted};
 ghost use Rattle.reduction.specs.Writing.{statementRows};
 ghost use Rattle.reduction.specs.Reducing.{packedRows, reduced, reducedBuffer};
-
-pub enum Reduced {
-    // How many rows are written.
-    Rows(usize),
-    Refused(Refusal),
-}
 
 // How many rows a statement gives: one for tags 10 to 13 and 21, else one for each term.
 fn row_count(s: Statement, terms: usize) -> usize
@@ -79,26 +74,26 @@ fn put_rows(q: Question, terms: usize, rows: &mut [u32])
 }
 
 // The reduction of an accepted question: 10 where the buffer is too short.
-fn reduce_accepted(q: Question, rows: &mut [u32]) -> Reduced
+fn reduce_accepted(q: Question, rows: &mut [u32]) -> Written
     requires { ⌜ IsAccepted q ⌝ }
     ensures { λ r. ⌜ (r ≡ reduced q (length (now (rows .entry)))) × (now (rows .exit) ≡ reducedBuffer q (now (rows .entry))) ⌝ }
 {
     let n = terms(q);
     let count = count_rows(q, n);
     if rows.len() < count {
-        return Reduced::Refused(Refusal::new(Refusal::BUFFER_TOO_SHORT, 0));
+        return Written::Refused(Refusal::new(Refusal::BUFFER_TOO_SHORT, 0));
     }
     put_rows(q, n, rows);
-    Reduced::Rows(count)
+    Written::Count(count)
 }
 
 // The rows of a question, packed, from the start of the buffer; their number is given back, and the rest of the buffer is untouched.
-pub fn reduce(q: Question, rows: &mut [u32]) -> Reduced
+pub fn reduce(q: Question, rows: &mut [u32]) -> Written
     ensures { λ r. ⌜ (r ≡ reduced q (length (now (rows .entry)))) × (now (rows .exit) ≡ reducedBuffer q (now (rows .entry))) ⌝ }
 {
     let table = check(q);
     match table {
-        TableCheck::Refused(refusal) => Reduced::Refused(refusal),
-        TableCheck::Accepted => reduce_accepted(q, rows),
+        Check::Refused(refusal) => Written::Refused(refusal),
+        Check::Accepted => reduce_accepted(q, rows),
     }
 }

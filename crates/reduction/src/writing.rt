@@ -6,7 +6,7 @@ ghost use mathlib.Core.Path.{_≡_};
 ghost use mathlib.Core.List.{[], _∷_};
 ghost use Prim.Native.Nat.{_≤_, _<_};
 ghost use lib.ListN.{length};
-ghost use Rattle.outcome.specs.Over.{over};
+ghost use Rattle.outcome.specs.Writes.{over};
 ghost use Rattle.row.specs.Parts.{packed};
 ghost use Rattle.reduction.specs.Writing.{parts, eachTerm, statementRows};
 

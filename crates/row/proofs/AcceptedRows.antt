@@ -6,11 +6,11 @@ use mathlib.Core.List.{List, [], _∷_, map}
 use borrow.Author.Tests.{ltb-false, le-ltb}
 use lib.Dec.{T, ltb}
 use lib.ListN.{length}
-use Rattle.question.specs.declared.checks.TableCheck.the-variants.{Accepted, Refused}
+use Rattle.outcome.specs.declared.checks.Check.the-variants.{Accepted, Refused}
 use Rattle.question.specs.Limits.{maxTerms, maxSets, maxRows}
-use Rattle.question.specs.Refusals.{refusal, tooManyNames, tooManyStatements, badRow}
+use Rattle.outcome.specs.Refusals.{refusal, tooManyNames, tooManyStatements, badRow}
 use Rattle.question.proofs.TestLaws.{and-left, and-right, and-both}
-use Rattle.question.proofs.AcceptedLaws.{refused-accepted}
+use Rattle.outcome.proofs.CheckLaws.{refused-accepted}
 use Rattle.theory.specs.Rules.{Row}
 use Rattle.theory.specs.Solutions.{allRows}
 use Rattle.theory.specs.Sets.{Test, rowDeclared}

@@ -6,14 +6,14 @@ use mathlib.Core.List.{List}
 use native.Mathlib.Numerals.{add-one}
 use lib.ListN.{length, getD, drop, drop-of-length-le}
 use lib.Seq.{drop-cons}
-use Rattle.question.specs.declared.checks.TableCheck.{TableCheck}
-use Rattle.question.specs.declared.checks.TableCheck.the-variants.{Accepted, Refused}
-use Rattle.question.specs.Refusals.{refusal, badRow}
+use Rattle.outcome.specs.declared.checks.Check.{Check}
+use Rattle.outcome.specs.declared.checks.Check.the-variants.{Accepted, Refused}
+use Rattle.outcome.specs.Refusals.{refusal, badRow}
 use Rattle.row.specs.Checks.{rowGood, rowsCheckedFrom}
 
 module _ (terms sets : ℕ) (rows : List ℕ) where
   -- the check from the index i on
-  abbrev pub checkFrom : ℕ → TableCheck
+  abbrev pub checkFrom : ℕ → Check
   checkFrom i = rowsCheckedFrom terms sets i (drop i rows)
 
   pub turn : (i : ℕ) → i < length rows → checkFrom i ≡ cond (rowGood terms sets (getD rows i 0)) (checkFrom (i + 1)) (Refused (refusal badRow i))

@@ -4,10 +4,10 @@ use mathlib.Core.Bool.{Bool, false, _&&_, _||_, cond}
 use mathlib.Core.List.{List, [], _∷_}
 use lib.Dec.{eqb, ltb}
 use lib.ListN.{length, getD}
-use Rattle.question.specs.declared.checks.TableCheck.{TableCheck}
-use Rattle.question.specs.declared.checks.TableCheck.the-variants.{Accepted, Refused}
+use Rattle.outcome.specs.declared.checks.Check.{Check}
+use Rattle.outcome.specs.declared.checks.Check.the-variants.{Accepted, Refused}
 use Rattle.question.specs.Limits.{maxTerms, maxSets, maxRows}
-use Rattle.question.specs.Refusals.{refusal, tooManyNames, tooManyStatements, badRow}
+use Rattle.outcome.specs.Refusals.{refusal, tooManyNames, tooManyStatements, badRow}
 use Rattle.row.specs.declared.parts.RowParts.{RowParts}
 use Rattle.row.specs.Parts.{rowBits, partsOf}
 
@@ -35,12 +35,12 @@ unfoldable pub rowGood : ℕ → ℕ → ℕ → Bool
 rowGood terms sets n = ltb n (2 ^ rowBits) && (ltb (partsOf n .term) terms && placesGood terms sets (partsOf n))
 
 -- the first bad row, where the first row has the index i
-unfoldable pub rowsCheckedFrom : ℕ → ℕ → ℕ → List ℕ → TableCheck
+unfoldable pub rowsCheckedFrom : ℕ → ℕ → ℕ → List ℕ → Check
 rowsCheckedFrom terms sets i [] = Accepted
 rowsCheckedFrom terms sets i (n ∷ ns) = cond (rowGood terms sets n) (rowsCheckedFrom terms sets (suc i) ns) (Refused (refusal badRow i))
 
 -- 5, then 7 (place 0), then 12 (place the row)
-unfoldable pub rowsChecked : ℕ → ℕ → List ℕ → TableCheck
+unfoldable pub rowsChecked : ℕ → ℕ → List ℕ → Check
 rowsChecked terms sets rows =
     cond (ltb maxTerms terms || ltb maxSets sets) (Refused (refusal tooManyNames 0))
     (cond (ltb maxRows (length rows)) (Refused (refusal tooManyStatements 0)) (rowsCheckedFrom terms sets 0 rows))

@@ -1,9 +1,9 @@
 // The check of rows handed to the search: 5 and 7 at place 0, then 12 at the first bad row.
 use crate::parts::RowParts;
 use crate::parts::unpack;
+use outcome::Check;
+use outcome::Refusal;
 use question::Question;
-use question::Refusal;
-use question::TableCheck;
 ghost use mathlib.Core.Path.{_≡_};
 ghost use Prim.Native.Nat.{_<_};
 ghost use Rattle.row.specs.Checks.{placesGood, rowGood, rowsCheckedFrom, rowsChecked};
@@ -47,31 +47,31 @@ fn row_good(row: u32, terms: usize, sets: u8) -> bool
 }
 
 // The first bad row.
-fn check_each(rows: &[u32], terms: usize, sets: u8) -> TableCheck
+fn check_each(rows: &[u32], terms: usize, sets: u8) -> Check
     ensures { λ r. ⌜ r ≡ rowsCheckedFrom terms sets 0 (now (rows .entry)) ⌝ }
 {
     let mut i: usize = 0;
     while i < rows.len() {
         if !row_good(rows[i], terms, sets) {
-            return TableCheck::Refused(Refusal::new(Refusal::BAD_ROW, i));
+            return Check::Refused(Refusal::new(Refusal::BAD_ROW, i));
         }
         i += 1;
     }
-    TableCheck::Accepted
+    Check::Accepted
 }
 
 // Rows handed in, over so many terms and sets: 5, then 7, at place 0; then 12 at the first bad row.
-pub fn check_rows(rows: &[u32], terms: usize, sets: u8) -> TableCheck
+pub fn check_rows(rows: &[u32], terms: usize, sets: u8) -> Check
     ensures { λ r. ⌜ r ≡ rowsChecked terms sets (now (rows .entry)) ⌝ }
 {
     if Question::MAX_TERMS < terms {
-        return TableCheck::Refused(Refusal::new(Refusal::TOO_MANY_NAMES, 0));
+        return Check::Refused(Refusal::new(Refusal::TOO_MANY_NAMES, 0));
     }
     if Question::MAX_SETS < sets {
-        return TableCheck::Refused(Refusal::new(Refusal::TOO_MANY_NAMES, 0));
+        return Check::Refused(Refusal::new(Refusal::TOO_MANY_NAMES, 0));
     }
     if Question::MAX_ROWS < rows.len() {
-        return TableCheck::Refused(Refusal::new(Refusal::TOO_MANY_STATEMENTS, 0));
+        return Check::Refused(Refusal::new(Refusal::TOO_MANY_STATEMENTS, 0));
     }
     check_each(rows, terms, sets)
 }

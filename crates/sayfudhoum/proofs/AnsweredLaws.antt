@@ -7,7 +7,7 @@ use mathlib.Core.Option.{Option, none, some}
 use native.Mathlib.Omega.{arith}
 use lib.ListN.{length}
 use Rattle.question.specs.declared.questions.Question.{Question}
-use Rattle.question.specs.declared.checks.TableCheck.the-variants.{Accepted}
+use Rattle.outcome.specs.declared.checks.Check.the-variants.{Accepted}
 use Rattle.question.specs.Questions.{termsOf}
 use Rattle.question.specs.Checks.{checked}
 use Rattle.question.proofs.AcceptedLaws.{accepted}
@@ -17,8 +17,8 @@ use Rattle.theory.proofs.AnswerLaws.{answer-solution}
 use Rattle.answer.specs.Answers.{said, asAnswer, MaySay}
 use Rattle.answer.specs.Bytes.{fileOf}
 use Rattle.answer.specs.Checks.{isGood}
-use Rattle.outcome.specs.Over.{fittedOver}
-use Rattle.answer.specs.Writes.{fitted, goodWritten, goodOver, written, writtenOver}
+use Rattle.outcome.specs.Writes.{fittedOver, fitted}
+use Rattle.answer.specs.Writes.{goodWritten, goodOver, written, writtenOver}
 use Rattle.answer.proofs.AnswerLaws.{none-length, some-length}
 use Rattle.answer.proofs.MayLaws.{may-good, may-few, as-said}
 

@@ -9,24 +9,24 @@ use borrow.Author.Tests.{ltb-true}
 use lib.Dec.{ltb}
 use lib.ListN.{length, take}
 use lib.Seq.{take-append-seam}
-use Rattle.question.specs.declared.refusals.Refusal.{Refusal}
+use Rattle.outcome.specs.declared.refusals.Refusal.{Refusal}
 use Rattle.question.specs.declared.questions.Question.{Question}
-use Rattle.question.specs.declared.checks.TableCheck.{TableCheck}
-use Rattle.question.specs.declared.checks.TableCheck.the-variants.{Accepted, Refused as RefusedTable}
+use Rattle.outcome.specs.declared.checks.Check.{Check}
+use Rattle.outcome.specs.declared.checks.Check.the-variants.{Accepted, Refused as RefusedTable}
 use Rattle.question.specs.Limits.{maxRows}
-use Rattle.question.specs.Refusals.{refusal, bufferTooShort}
+use Rattle.outcome.specs.Refusals.{refusal, bufferTooShort}
 use Rattle.question.specs.Questions.{termsOf}
 use Rattle.question.specs.Checks.{checked}
 use Rattle.question.proofs.AcceptedLaws.{accepted}
-use Rattle.field.proofs.Never.{never}
-use Rattle.outcome.specs.Over.{over}
+use Rattle.outcome.proofs.Never.{never}
+use Rattle.outcome.specs.Writes.{over}
 use Rattle.outcome.proofs.OverLaws.{over-length}
 use Rattle.theory.specs.Solutions.{Solution}
 use Rattle.theory.specs.FirstModels.{firstModel}
 use Rattle.theory.specs.Sets.{fits}
 use Rattle.theory.specs.Answers.{maskBound, answer}
 use Rattle.row.specs.Rows.{rowOf}
-use Rattle.reduction.specs.declared.reducing.Reduced.the-variants.{Rows, Refused as NotReduced}
+use Rattle.outcome.specs.declared.writes.Written.the-variants.{Count, Refused as NotReduced}
 use Rattle.reduction.specs.Reducing.{packedRows, reducedThen, reduced, reducedBuffer}
 use Rattle.reduction.proofs.ReducingLaws.{packed-few, rows-buffer}
 use Rattle.reduction.proofs.ReducedRows.{rows-pass, rows-say}
@@ -46,26 +46,26 @@ module _ (q : Question) where
 
   -- what a reduction tells, where there is room for as many rows as any question has
   module _ (room : ℕ) (enough : maxRows ≤ room) where
-    pub rows-told : (n : ℕ) → reduced q room ≡ Rows n → (checked q ≡ Accepted) × (n ≡ length (packedRows q))
+    pub rows-told : (n : ℕ) → reduced q room ≡ Count n → (checked q ≡ Accepted) × (n ≡ length (packedRows q))
     unfolding reduced
     rows-told n e = go (checked q) (ltb room (length (packedRows q))) refl refl e
       where
-        go : (t : TableCheck) (b : Bool) → checked q ≡ t → ltb room (length (packedRows q)) ≡ b → reducedThen t (length (packedRows q)) room ≡ Rows n → (checked q ≡ Accepted) × (n ≡ length (packedRows q))
+        go : (t : Check) (b : Bool) → checked q ≡ t → ltb room (length (packedRows q)) ≡ b → reducedThen t (length (packedRows q)) room ≡ Count n → (checked q ≡ Accepted) × (n ≡ length (packedRows q))
         go (RefusedTable r) b p s e = never cc
         go Accepted true p s e = let f = packed-few q (accepted q .0 p) in absurd (omega (arith, f, ltb-true room (length (packedRows q)) s))
-        go Accepted false p s e = let same : Rows (length (packedRows q)) ≡ Rows n = sym (ap (λ b. cond b (NotReduced (refusal bufferTooShort 0)) (Rows (length (packedRows q)))) s) ∙ e in (p, (cc))
+        go Accepted false p s e = let same : Count (length (packedRows q)) ≡ Count n = sym (ap (λ b. cond b (NotReduced (refusal bufferTooShort 0)) (Count (length (packedRows q)))) s) ∙ e in (p, (cc))
 
     pub refusal-told : (r : Refusal) → reduced q room ≡ NotReduced r → checked q ≡ RefusedTable r
     unfolding reduced
     refusal-told r e = go (checked q) (ltb room (length (packedRows q))) refl refl e
       where
-        go : (t : TableCheck) (b : Bool) → checked q ≡ t → ltb room (length (packedRows q)) ≡ b → reducedThen t (length (packedRows q)) room ≡ NotReduced r → checked q ≡ RefusedTable r
+        go : (t : Check) (b : Bool) → checked q ≡ t → ltb room (length (packedRows q)) ≡ b → reducedThen t (length (packedRows q)) room ≡ NotReduced r → checked q ≡ RefusedTable r
         go (RefusedTable x) b p s e = let same : x ≡ r = cc in p ∙ ap RefusedTable same
         go Accepted true p s e = let f = packed-few q (accepted q .0 p) in absurd (omega (arith, f, ltb-true room (length (packedRows q)) s))
-        go Accepted false p s e = let same : Rows (length (packedRows q)) ≡ NotReduced r = sym (ap (λ b. cond b (NotReduced (refusal bufferTooShort 0)) (Rows (length (packedRows q)))) s) ∙ e in never cc
+        go Accepted false p s e = let same : Count (length (packedRows q)) ≡ NotReduced r = sym (ap (λ b. cond b (NotReduced (refusal bufferTooShort 0)) (Count (length (packedRows q)))) s) ∙ e in never cc
 
   -- the rows stand at the front of the buffer
-  pub rows-stand : (old new : List ℕ) (n : ℕ) → maxRows ≤ length old → new ≡ reducedBuffer q old → reduced q (length old) ≡ Rows n → (n ≤ length new) × (take n new ≡ packedRows q)
+  pub rows-stand : (old new : List ℕ) (n : ℕ) → maxRows ≤ length old → new ≡ reducedBuffer q old → reduced q (length old) ≡ Count n → (n ≤ length new) × (take n new ≡ packedRows q)
   rows-stand old new n enough b e =
       let t = rows-told (length old) enough n e in
       let is = accepted q .0 (t .0) in

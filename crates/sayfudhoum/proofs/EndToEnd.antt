@@ -10,14 +10,14 @@ use native.Mathlib.Omega.{arith}
 use borrow.Author.Tests.{ltb-true}
 use lib.Dec.{ltb}
 use lib.ListN.{length}
-use Rattle.question.specs.declared.refusals.Refusal.{Refusal}
+use Rattle.outcome.specs.declared.refusals.Refusal.{Refusal}
 use Rattle.question.specs.declared.questions.Question.{Question}
 use Rattle.question.specs.Questions.{statements}
 use Rattle.question.specs.Checks.{IsAccepted}
 use Rattle.question.specs.Meaning.{Assignment, IsAssignment, AllHold}
 use Rattle.question.proofs.AcceptedLaws.{accepted}
-use Rattle.question_file.specs.declared.reads.FileCheck.{FileCheck}
-use Rattle.question_file.specs.declared.reads.FileCheck.the-variants.{Accepted, Refused as RefusedFile}
+use Rattle.outcome.specs.declared.checks.Check.{Check}
+use Rattle.outcome.specs.declared.checks.Check.the-variants.{Accepted, Refused as RefusedFile}
 use Rattle.question_file.specs.Reads.{readQuestion}
 use Rattle.question_file.proofs.RefusalLaws.{refusal-told}
 use Rattle.question_file.proofs.RoundTrips.{read-checked}
@@ -26,7 +26,7 @@ use Rattle.theory.specs.Answers.{IsFirstModelOf, asModel}
 use Rattle.theory.proofs.AnswerLaws.{answer-first, answer-impossible, answer-solution, answer-assignment, answer-holds}
 use Rattle.judge.specs.declared.judging.Judgement.the-variants.{Yes}
 use Rattle.judge.specs.Judgements.{judged}
-use Rattle.outcome.specs.Over.{over}
+use Rattle.outcome.specs.Writes.{over}
 use Rattle.outcome.specs.Calls.{Call}
 use Rattle.answer.specs.Bytes.{fileOf}
 use Rattle.sayfudhoum.specs.Models.{modelShown}
@@ -81,7 +81,7 @@ module _ (bytes old : List ℕ) where
   unfolding answerNumber answered answeredOver
   answers = go (readQuestion bytes .outcome) (answerIn bytes) (ltb (length old) (length (fileOf (answerIn bytes)))) refl refl refl
     where
-      go : (o : FileCheck) (s : Option Solution) (short : Bool) → readQuestion bytes .outcome ≡ o → answerIn bytes ≡ s → ltb (length old) (length (fileOf (answerIn bytes))) ≡ short →
+      go : (o : Check) (s : Option Solution) (short : Bool) → readQuestion bytes .outcome ≡ o → answerIn bytes ≡ s → ltb (length old) (length (fileOf (answerIn bytes))) ≡ short →
           Answers bytes old (writtenNumber (answeredBy o (answerIn bytes) (length old))) (overBy o (answerIn bytes) old)
       go (RefusedFile r) s short p n h = file-refused r p refl refl
       go Accepted s true p n h = rw h (too-short p (ltb-true (length old) _ h) refl refl)
@@ -99,7 +99,7 @@ module _ (bytes : List ℕ) where
   unfolding verdictNumber fileDecided
   decides = go (readQuestion bytes .outcome) (answerIn bytes) refl refl
     where
-      go : (o : FileCheck) (s : Option Solution) → readQuestion bytes .outcome ≡ o → answerIn bytes ≡ s → Decides bytes (decisionNumber (decidedBy o (answerIn bytes)))
+      go : (o : Check) (s : Option Solution) → readQuestion bytes .outcome ≡ o → answerIn bytes ≡ s → Decides bytes (decisionNumber (decidedBy o (answerIn bytes)))
       go (RefusedFile r) s p n = file-refused r p refl
       go Accepted none p n = rw n (impossible (none-worth bytes p n) refl)
       go Accepted (some sol) p n = rw n (possible sol (some-worth bytes p sol n) refl)

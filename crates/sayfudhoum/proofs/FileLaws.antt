@@ -7,24 +7,22 @@ use native.Mathlib.Omega.{arith}
 use borrow.Author.Tests.{ltb-false}
 use lib.Dec.{ltb}
 use lib.ListN.{length}
-use Rattle.question.specs.declared.refusals.Refusal.{Refusal}
+use Rattle.outcome.specs.declared.refusals.Refusal.{Refusal}
 use Rattle.question.specs.declared.questions.Question.{Question}
-use Rattle.question.specs.declared.checks.TableCheck.the-variants.{Accepted as AcceptedTable}
-use Rattle.question.specs.Refusals.{refusal, bufferTooShort}
+use Rattle.outcome.specs.declared.checks.Check.the-variants.{Accepted, Refused as RefusedFile}
+use Rattle.outcome.specs.Refusals.{refusal, bufferTooShort}
 use Rattle.question.specs.Checks.{checked}
-use Rattle.question_file.specs.declared.reads.FileCheck.{FileCheck}
-use Rattle.question_file.specs.declared.reads.FileCheck.the-variants.{Accepted, Refused as RefusedFile}
+use Rattle.outcome.specs.declared.checks.Check.{Check}
 use Rattle.question_file.specs.declared.reads.ReadQuestion.{ReadQuestion}
 use Rattle.question_file.specs.Reads.{readQuestion}
 use Rattle.question_file.proofs.RefusalLaws.{refusal-told}
 use Rattle.question_file.proofs.RoundTrips.{read-checked}
-use Rattle.outcome.specs.Over.{over, fittedOver}
+use Rattle.outcome.specs.Writes.{over, fittedOver, fitted}
 use Rattle.outcome.proofs.OverLaws.{over-length}
-use Rattle.field.proofs.Never.{never}
+use Rattle.outcome.proofs.Never.{never}
 use Rattle.theory.specs.Answers.{answer}
-use Rattle.answer.specs.declared.writes.AnswerWritten.the-variants.{Bytes, Refused}
+use Rattle.outcome.specs.declared.writes.Written.the-variants.{Count, Refused}
 use Rattle.answer.specs.Bytes.{fileOf}
-use Rattle.answer.specs.Writes.{fitted}
 use Rattle.sayfudhoum.specs.Decisions.{undecided, decided}
 use Rattle.sayfudhoum.specs.Files.{answerIn, decidedBy, fileDecided, answeredBy, answered, overBy, answeredOver, reportBytes, responseBy, response, responded, respondedOver}
 use Rattle.sayfudhoum.specs.Numbers.{IsSmall, IsShort}
@@ -62,7 +60,7 @@ module _ (bytes : List ℕ) (read : ReadQuestion) (is : read ≡ readQuestion by
     accepted : readQuestion bytes .outcome ≡ Accepted
     accepted = sym (ap (λ x. x .outcome) is) ∙ e
 
-    pub question-checked : checked q ≡ AcceptedTable
+    pub question-checked : checked q ≡ Accepted
     question-checked = ap (λ x. checked (x .question)) is ∙ read-checked bytes accepted
 
     same : answerIn bytes ≡ answer q
@@ -90,7 +88,7 @@ module _ (bytes : List ℕ) where
   unfolding fileDecided
   decided-small = go (readQuestion bytes .outcome) refl
     where
-      go : (o : FileCheck) → readQuestion bytes .outcome ≡ o → IsSmall (decidedBy o (answerIn bytes) .outcome)
+      go : (o : Check) → readQuestion bytes .outcome ≡ o → IsSmall (decidedBy o (answerIn bytes) .outcome)
       go Accepted p = tt
       go (RefusedFile r) p = refusal-told bytes r p .1
 
@@ -98,23 +96,23 @@ module _ (bytes : List ℕ) where
   unfolding answered
   answered-short room = go (readQuestion bytes .outcome) refl
     where
-      fits : (b : Bool) → length (fileOf (answerIn bytes)) ≤ 49 → IsShort (cond b (Refused (refusal bufferTooShort 0)) (Bytes (length (fileOf (answerIn bytes)))))
+      fits : (b : Bool) → length (fileOf (answerIn bytes)) ≤ 49 → IsShort (cond b (Refused (refusal bufferTooShort 0)) (Count (length (fileOf (answerIn bytes)))))
       fits true h = omega arith
       fits false h = omega arith
 
-      go : (o : FileCheck) → readQuestion bytes .outcome ≡ o → IsShort (answeredBy o (answerIn bytes) room)
+      go : (o : Check) → readQuestion bytes .outcome ≡ o → IsShort (answeredBy o (answerIn bytes) room)
       go Accepted p = fits (ltb room (length (fileOf (answerIn bytes)))) (file-short (readQuestion bytes .question) (read-checked bytes p))
       go (RefusedFile r) p = refusal-told bytes r p .1
 
 -- what is written lies in the buffer
-within : (bytes old new : List ℕ) (n : ℕ) → fitted bytes (length old) ≡ Bytes n → new ≡ fittedOver bytes old → n ≤ length new
+within : (bytes old new : List ℕ) (n : ℕ) → fitted bytes (length old) ≡ Count n → new ≡ fittedOver bytes old → n ≤ length new
 within bytes old new n e b = rw b (go (ltb (length old) (length bytes)) refl e)
   where
-    go : (short : Bool) → ltb (length old) (length bytes) ≡ short → cond short (Refused (refusal bufferTooShort 0)) (Bytes (length bytes)) ≡ Bytes n → n ≤ length (cond short old (over bytes old))
+    go : (short : Bool) → ltb (length old) (length bytes) ≡ short → cond short (Refused (refusal bufferTooShort 0)) (Count (length bytes)) ≡ Count n → n ≤ length (cond short old (over bytes old))
     go true p e = never cc
     go false p e = let same : length bytes ≡ n = cc in omega (arith, same, over-length bytes old (ltb-false (length old) (length bytes) p), ltb-false (length old) (length bytes) p)
 
 -- the program's output lies in its buffer
-pub response-within : (bytes old new : List ℕ) (n : ℕ) → responded bytes (length old) ≡ Bytes n → new ≡ respondedOver bytes old → n ≤ length new
+pub response-within : (bytes old new : List ℕ) (n : ℕ) → responded bytes (length old) ≡ Count n → new ≡ respondedOver bytes old → n ≤ length new
 unfolding responded respondedOver
 response-within bytes old new n e b = within (response bytes) old new n e b

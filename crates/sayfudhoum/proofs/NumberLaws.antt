@@ -2,24 +2,24 @@
 use Prim.Native.Nat.{ℕ, _≤_}
 use mathlib.Core.Path.{_≡_, subst}
 use native.Mathlib.Omega.{arith}
-use Rattle.question.specs.declared.refusals.Refusal.{Refusal}
+use Rattle.outcome.specs.declared.refusals.Refusal.{Refusal}
 use Rattle.answer.specs.declared.answers.Verdict.{Verdict}
 use Rattle.answer.specs.declared.answers.Verdict.the-variants.{Possible, Impossible}
 use Rattle.answer.specs.Bytes.{verdictByte}
-use Rattle.answer.specs.declared.writes.AnswerWritten.{AnswerWritten}
-use Rattle.answer.specs.declared.writes.AnswerWritten.the-variants.{Bytes, Refused as NotWritten}
-use Rattle.sayfudhoum.specs.declared.decisions.DecisionCheck.{DecisionCheck}
-use Rattle.sayfudhoum.specs.declared.decisions.DecisionCheck.the-variants.{Refused}
+use Rattle.outcome.specs.declared.writes.Written.{Written}
+use Rattle.outcome.specs.declared.writes.Written.the-variants.{Count, Refused as NotWritten}
+use Rattle.outcome.specs.declared.checks.Check.{Check}
+use Rattle.outcome.specs.declared.checks.Check.the-variants.{Refused}
 use Rattle.sayfudhoum.specs.Numbers.{maxPlace, IsSmall, IsShort}
 
-module _ (w : AnswerWritten) where
-  pub written-count : (n : ℕ) → w ≡ Bytes n → IsShort w → n ≤ maxPlace
+module _ (w : Written) where
+  pub written-count : (n : ℕ) → w ≡ Count n → IsShort w → n ≤ maxPlace
   written-count n e h = subst IsShort e h
 
   pub written-place : (r : Refusal) → w ≡ NotWritten r → IsShort w → r .place ≤ maxPlace
   written-place r e h = subst IsShort e h
 
-module _ (o : DecisionCheck) where
+module _ (o : Check) where
   pub outcome-place : (r : Refusal) → o ≡ Refused r → IsSmall o → r .place ≤ maxPlace
   outcome-place r e h = subst IsSmall e h
 

@@ -1,8 +1,8 @@
 -- The decision of a question: its answer, or why the table is refused.
-use Rattle.question.specs.declared.refusals.Refusal.{Refusal}
+use Rattle.outcome.specs.declared.refusals.Refusal.{Refusal}
 use Rattle.question.specs.declared.questions.Question.{Question}
-use Rattle.question.specs.declared.checks.TableCheck.{TableCheck}
-use Rattle.question.specs.declared.checks.TableCheck.the-variants.{Accepted, Refused as RefusedTable}
+use Rattle.outcome.specs.declared.checks.Check.{Check}
+use Rattle.outcome.specs.declared.checks.Check.the-variants.{Accepted, Refused as RefusedTable, Refused}
 use Rattle.question.specs.Checks.{checked}
 use Rattle.theory.specs.Answers.{answer}
 use Rattle.search.specs.declared.answers.Verdict.{Verdict as Found}
@@ -11,7 +11,6 @@ use Rattle.search.specs.declared.answers.SearchAnswer.{SearchAnswer}
 use Rattle.answer.specs.declared.answers.Verdict.the-variants.{Possible}
 use Rattle.answer.specs.declared.answers.Answer.{Answer}
 use Rattle.answer.specs.Answers.{asAnswer, impossibleAnswer, filler}
-use Rattle.sayfudhoum.specs.declared.decisions.DecisionCheck.the-variants.{Decided, Refused}
 use Rattle.sayfudhoum.specs.declared.decisions.Decision.{Decision}
 
 -- a refusal, with the filler beside it
@@ -19,10 +18,10 @@ abbrev pub undecided : Refusal → Decision
 undecided r = record { outcome = Refused r; answer = filler }
 
 abbrev pub decidedAs : Answer → Decision
-decidedAs a = record { outcome = Decided; answer = a }
+decidedAs a = record { outcome = Accepted; answer = a }
 
 -- the refusals of the table, else the answer
-abbrev pub decidedThen : TableCheck → Answer → Decision
+abbrev pub decidedThen : Check → Answer → Decision
 decidedThen Accepted a = decidedAs a
 decidedThen (RefusedTable r) a = undecided r
 

@@ -1,12 +1,12 @@
 -- The one number that a call for C gives back: its lowest byte is the refusal number, or 0; the rest is the place, the count of bytes, or the verdict.
 use Prim.Native.Nat.{ℕ, _+_, _*_, _≤_}
 use mathlib.Core.List.{List}
-use Rattle.question.specs.declared.refusals.Refusal.{Refusal}
-use Rattle.answer.specs.declared.writes.AnswerWritten.{AnswerWritten}
-use Rattle.answer.specs.declared.writes.AnswerWritten.the-variants.{Bytes, Refused as NotWritten}
+use Rattle.outcome.specs.declared.refusals.Refusal.{Refusal}
+use Rattle.outcome.specs.declared.writes.Written.{Written}
+use Rattle.outcome.specs.declared.writes.Written.the-variants.{Count, Refused as NotWritten}
 use Rattle.answer.specs.Bytes.{verdictByte}
-use Rattle.sayfudhoum.specs.declared.decisions.DecisionCheck.{DecisionCheck}
-use Rattle.sayfudhoum.specs.declared.decisions.DecisionCheck.the-variants.{Decided, Refused}
+use Rattle.outcome.specs.declared.checks.Check.{Check}
+use Rattle.outcome.specs.declared.checks.Check.the-variants.{Accepted, Refused}
 use Rattle.sayfudhoum.specs.declared.decisions.Decision.{Decision}
 use Rattle.sayfudhoum.specs.Files.{fileDecided, answered}
 
@@ -15,13 +15,13 @@ abbrev pub refusalNumber : Refusal → ℕ
 refusalNumber r = r .place * 256 + r .number
 
 -- a count of bytes, or the refusal
-abbrev pub writtenNumber : AnswerWritten → ℕ
-writtenNumber (Bytes n) = n * 256
+abbrev pub writtenNumber : Written → ℕ
+writtenNumber (Count n) = n * 256
 writtenNumber (NotWritten r) = refusalNumber r
 
 -- 1 for possible and 0 for impossible, or the refusal
-abbrev pub outcomeNumber : DecisionCheck → ℕ → ℕ
-outcomeNumber Decided verdict = verdict * 256
+abbrev pub outcomeNumber : Check → ℕ → ℕ
+outcomeNumber Accepted verdict = verdict * 256
 outcomeNumber (Refused r) verdict = refusalNumber r
 
 abbrev pub decisionNumber : Decision → ℕ
@@ -39,10 +39,10 @@ verdictNumber bytes = decisionNumber (fileDecided bytes)
 abbrev pub maxPlace : ℕ
 maxPlace = 392
 
-abbrev pub IsSmall : DecisionCheck → Type 0
-IsSmall Decided = Unit {0}
+abbrev pub IsSmall : Check → Type 0
+IsSmall Accepted = Unit {0}
 IsSmall (Refused r) = r .place ≤ maxPlace
 
-abbrev pub IsShort : AnswerWritten → Type 0
-IsShort (Bytes n) = n ≤ maxPlace
+abbrev pub IsShort : Written → Type 0
+IsShort (Count n) = n ≤ maxPlace
 IsShort (NotWritten r) = r .place ≤ maxPlace

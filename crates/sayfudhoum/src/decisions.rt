@@ -1,10 +1,11 @@
 // A question value to its answer: the table is reduced to rows, and the rows are searched.
 use answer::Answer;
 use answer::Verdict;
+use outcome::Check;
+use outcome::Refusal;
+use outcome::Written;
 use question::Question;
-use question::Refusal;
 use question::terms;
-use reduction::Reduced;
 use reduction::reduce;
 use search::SearchAnswer;
 use search::Verdict as Found;
@@ -12,14 +13,9 @@ use search::search;
 ghost use mathlib.Core.Path.{_≡_};
 ghost use Rattle.sayfudhoum.specs.Decisions.{undecided, shown, decided};
 
-pub enum DecisionCheck {
-    Decided,
-    Refused(Refusal),
-}
-
 // Whether the question is decided, and its answer. Where it is refused the answer is a filler, which never says "impossible".
 pub struct Decision {
-    pub outcome: DecisionCheck,
+    pub outcome: Check,
     pub answer: Answer,
 }
 
@@ -32,7 +28,7 @@ pub(crate) fn refuse(refusal: Refusal) -> Decision
         masks: [0; 12],
     };
     Decision {
-        outcome: DecisionCheck::Refused(refusal),
+        outcome: Check::Refused(refusal),
         answer: filler,
     }
 }
@@ -52,14 +48,14 @@ fn show(found: SearchAnswer) -> Decision
                 masks: masks,
             };
             Decision {
-                outcome: DecisionCheck::Decided,
+                outcome: Check::Accepted,
                 answer: answer,
             }
         }
         Found::Impossible => {
             let answer = Answer::impossible();
             Decision {
-                outcome: DecisionCheck::Decided,
+                outcome: Check::Accepted,
                 answer: answer,
             }
         }
@@ -73,8 +69,8 @@ pub fn decide(q: Question) -> Decision
 {
     let mut rows: [u32; 768] = [0; 768];
     match reduce(q, &mut rows) {
-        Reduced::Refused(refusal) => refuse(refusal),
-        Reduced::Rows(count) => {
+        Written::Refused(refusal) => refuse(refusal),
+        Written::Count(count) => {
             let found = search(&rows[0..count], terms(q), q.sets);
             show(found)
         }

@@ -2,21 +2,20 @@
 use crate::decisions::Decision;
 use crate::decisions::decide;
 use crate::decisions::refuse;
-use answer::AnswerWritten;
 use answer::write_answer;
 use field::put_field;
+use outcome::Check;
+use outcome::Refusal;
+use outcome::Written;
 use question::Question;
-use question::Refusal;
-use question_file::FileCheck;
 use question_file::read_question;
 ghost use mathlib.Core.Path.{_≡_};
 ghost use lib.ListN.{length};
-ghost use Rattle.question.specs.declared.checks.TableCheck.the-variants.{Accepted};
+ghost use Rattle.outcome.specs.declared.checks.Check.the-variants.{Accepted};
 ghost use Rattle.question.specs.Checks.{checked};
 ghost use Rattle.theory.specs.Answers.{answer};
 ghost use Rattle.answer.specs.Bytes.{fileOf};
-ghost use Rattle.outcome.specs.Over.{fittedOver};
-ghost use Rattle.answer.specs.Writes.{fitted};
+ghost use Rattle.outcome.specs.Writes.{fittedOver, fitted};
 ghost use Rattle.sayfudhoum.specs.Files.{fileDecided, answered, answeredOver, reportBytes, responded, respondedOver};
 
 // The decision of a question file: the refusals of the file, else the answer to its question.
@@ -26,8 +25,8 @@ pub fn decide_file(bytes: &[u8]) -> Decision
     let read = read_question(bytes);
     let outcome = read.outcome;
     match outcome {
-        FileCheck::Refused(refusal) => refuse(refusal),
-        FileCheck::Accepted => {
+        Check::Refused(refusal) => refuse(refusal),
+        Check::Accepted => {
             let question = read.question;
             decide(question)
         }
@@ -35,7 +34,7 @@ pub fn decide_file(bytes: &[u8]) -> Decision
 }
 
 // The answer to an accepted question, written into a lent buffer: 10 if it is shorter than this answer.
-fn answer_question(question: Question, buf: &mut [u8]) -> AnswerWritten
+fn answer_question(question: Question, buf: &mut [u8]) -> Written
     requires { ⌜ checked question ≡ Accepted ⌝ }
     ensures { λ r. ⌜ (r ≡ fitted (fileOf (answer question)) (length (now (buf .entry)))) × (now (buf .exit) ≡ fittedOver (fileOf (answer question)) (now (buf .entry))) ⌝ }
 {
@@ -45,14 +44,14 @@ fn answer_question(question: Question, buf: &mut [u8]) -> AnswerWritten
 }
 
 // The answer to a question file, written into a lent buffer: the refusals of the file, then 10. A refused call leaves the buffer as it was.
-pub fn answer_file(bytes: &[u8], buf: &mut [u8]) -> AnswerWritten
+pub fn answer_file(bytes: &[u8], buf: &mut [u8]) -> Written
     ensures { λ r. ⌜ (r ≡ answered (now (bytes .entry)) (length (now (buf .entry)))) × (now (buf .exit) ≡ answeredOver (now (bytes .entry)) (now (buf .entry))) ⌝ }
 {
     let read = read_question(bytes);
     let outcome = read.outcome;
     match outcome {
-        FileCheck::Refused(refusal) => AnswerWritten::Refused(refusal),
-        FileCheck::Accepted => {
+        Check::Refused(refusal) => Written::Refused(refusal),
+        Check::Accepted => {
             let question = read.question;
             answer_question(question, buf)
         }
@@ -60,29 +59,29 @@ pub fn answer_file(bytes: &[u8], buf: &mut [u8]) -> AnswerWritten
 }
 
 // A refusal as field 44, and 7F behind it; 10 if the buffer is shorter.
-fn report(refusal: Refusal, buf: &mut [u8]) -> AnswerWritten
+fn report(refusal: Refusal, buf: &mut [u8]) -> Written
     ensures { λ r. ⌜ (r ≡ fitted (reportBytes refusal) (length (now (buf .entry)))) × (now (buf .exit) ≡ fittedOver (reportBytes refusal) (now (buf .entry))) ⌝ }
 {
     if buf.len() < 9 {
-        return AnswerWritten::Refused(Refusal::new(Refusal::BUFFER_TOO_SHORT, 0));
+        return Written::Refused(Refusal::new(Refusal::BUFFER_TOO_SHORT, 0));
     }
     let high = (refusal.place / 256 % 256) as u8;
     let low = (refusal.place % 256) as u8;
     let body = [refusal.number, high, low];
     let first = put_field(0x44, &body, buf);
     put_field(0x7f, b"", &mut buf[first..]);
-    AnswerWritten::Bytes(9)
+    Written::Count(9)
 }
 
 // What the program writes to a question file: the answer, or a report of the file's refusal. 49 bytes are enough for either; 10 if there are too few.
-pub fn respond(bytes: &[u8], buf: &mut [u8]) -> AnswerWritten
+pub fn respond(bytes: &[u8], buf: &mut [u8]) -> Written
     ensures { λ r. ⌜ (r ≡ responded (now (bytes .entry)) (length (now (buf .entry)))) × (now (buf .exit) ≡ respondedOver (now (bytes .entry)) (now (buf .entry))) ⌝ }
 {
     let read = read_question(bytes);
     let outcome = read.outcome;
     match outcome {
-        FileCheck::Refused(refusal) => report(refusal, buf),
-        FileCheck::Accepted => {
+        Check::Refused(refusal) => report(refusal, buf),
+        Check::Accepted => {
             let question = read.question;
             answer_question(question, buf)
         }

@@ -5,7 +5,6 @@ mod files;
 mod numbers;
 
 pub use decisions::Decision;
-pub use decisions::DecisionCheck;
 pub use decisions::decide;
 pub use exports::sayfudhoum_answer;
 pub use exports::sayfudhoum_verdict;

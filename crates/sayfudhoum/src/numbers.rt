@@ -1,8 +1,8 @@
 // The number that a call for C gives back: the lowest byte is the refusal number, or 0; the rest is the place, the count of bytes, or the verdict.
-use crate::decisions::DecisionCheck;
-use answer::AnswerWritten;
 use answer::Verdict;
-use question::Refusal;
+use outcome::Check;
+use outcome::Refusal;
+use outcome::Written;
 ghost use mathlib.Core.Path.{_≡_};
 ghost use Prim.Native.Nat.{_≤_};
 ghost use Rattle.answer.specs.Bytes.{verdictByte};
@@ -24,22 +24,22 @@ fn verdict_value(verdict: Verdict) -> u64
     }
 }
 
-pub(crate) fn outcome_number(outcome: DecisionCheck, verdict: Verdict) -> u64
+pub(crate) fn outcome_number(outcome: Check, verdict: Verdict) -> u64
     requires { ⌜ IsSmall outcome ⌝ }
     ensures { λ r. ⌜ r ≡ outcomeNumber outcome (verdictByte verdict) ⌝ }
 {
     match outcome {
-        DecisionCheck::Decided => verdict_value(verdict) * 256,
-        DecisionCheck::Refused(refusal) => refusal_number(refusal),
+        Check::Accepted => verdict_value(verdict) * 256,
+        Check::Refused(refusal) => refusal_number(refusal),
     }
 }
 
-pub(crate) fn written_number(written: AnswerWritten) -> u64
+pub(crate) fn written_number(written: Written) -> u64
     requires { ⌜ IsShort written ⌝ }
     ensures { λ r. ⌜ r ≡ writtenNumber written ⌝ }
 {
     match written {
-        AnswerWritten::Bytes(count) => count as u64 * 256,
-        AnswerWritten::Refused(refusal) => refusal_number(refusal),
+        Written::Count(count) => count as u64 * 256,
+        Written::Refused(refusal) => refusal_number(refusal),
     }
 }

@@ -4,9 +4,9 @@ use mathlib.Core.Path.{_≡_, refl, sym, ap, _∙_}
 use mathlib.Core.List.{List, [], map}
 use mathlib.Core.Option.{Option, none, some}
 use native.Mathlib.Omega.{arith}
-use Rattle.question.specs.declared.refusals.Refusal.{Refusal}
-use Rattle.question.specs.declared.checks.TableCheck.{TableCheck}
-use Rattle.question.specs.declared.checks.TableCheck.the-variants.{Accepted, Refused as RowsRefused}
+use Rattle.outcome.specs.declared.refusals.Refusal.{Refusal}
+use Rattle.outcome.specs.declared.checks.Check.{Check}
+use Rattle.outcome.specs.declared.checks.Check.the-variants.{Accepted, Refused as RowsRefused}
 use Rattle.theory.specs.Rules.{Row}
 use Rattle.theory.specs.Solutions.{Solution, IsSolution}
 use Rattle.theory.specs.FirstModels.{firstModel, IsFirstModel}
@@ -36,7 +36,7 @@ module _ (terms sets : ℕ) (rows : List ℕ) where
   abbrev first : Option Solution
   first = firstModel fits terms (2 ^ sets) said
 
-  module _ (r : SearchAnswer) (check : TableCheck) (checked : check ≡ rowsChecked terms sets rows) where
+  module _ (r : SearchAnswer) (check : Check) (checked : check ≡ rowsChecked terms sets rows) where
     pub searched-accepted : check ≡ Accepted → r ≡ answerOf first → r ≡ searched terms sets rows
     unfolding searched
     searched-accepted e is = is ∙ ap (λ t. acceptedThen t (answerOf first)) (sym e ∙ checked)

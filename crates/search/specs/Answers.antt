@@ -3,8 +3,7 @@ use Prim.Native.Nat.{ℕ, _-_, _^_}
 use mathlib.Core.List.{List, [], _++_, map}
 use mathlib.Core.Option.{Option, none, some}
 use lib.ListN.{length, replicate}
-use Rattle.question.specs.declared.checks.TableCheck.{TableCheck}
-use Rattle.question.specs.declared.checks.TableCheck.the-variants.{Accepted, Refused as RowsRefused}
+use Rattle.outcome.specs.Checks.{acceptedThen}
 use Rattle.question.specs.Limits.{maxTerms}
 use Rattle.theory.specs.Arrangements.{classes}
 use Rattle.theory.specs.Solutions.{Solution}
@@ -29,11 +28,6 @@ unfoldable pub answerOf : Option Solution → SearchAnswer
 answerOf none = withoutModel Impossible
 answerOf (some sol) = record { verdict = Possible; classes = classes (sol .arrangement); arrangement = padded (sol .arrangement); masks = padded (sol .masks) }
 
--- what follows where the rows are accepted, else their refusal
-abbrev pub acceptedThen : TableCheck → SearchAnswer → SearchAnswer
-acceptedThen Accepted next = next
-acceptedThen (RowsRefused r) next = withoutModel (Refused r)
-
 -- the answer to rows over so many terms and sets: 5, 7 (place 0), 12 (place the row), else the first model of the rows
 unfoldable pub searched : ℕ → ℕ → List ℕ → SearchAnswer
-searched terms sets rows = acceptedThen (rowsChecked terms sets rows) (answerOf (firstModel fits terms (2 ^ sets) (map rowOf rows)))
+searched terms sets rows = acceptedThen (rowsChecked terms sets rows) (λ r. withoutModel (Refused r)) (answerOf (firstModel fits terms (2 ^ sets) (map rowOf rows)))

@@ -1,5 +1,5 @@
 // What the search answers: the verdict, and beside it the first model.
-use question::Refusal;
+use outcome::Refusal;
 ghost use mathlib.Core.Path.{_≡_};
 ghost use Rattle.search.specs.Verdicts.{isPossible};
 ghost use Rattle.search.specs.Answers.{withoutModel};

@@ -12,14 +12,14 @@ use crate::renamings::PLAIN;
 use crate::renamings::back_from;
 use crate::renamings::by_weight;
 use crate::renamings::is_renaming;
-use question::TableCheck;
+use outcome::Check;
 use row::check_rows;
 ghost use mathlib.Core.Path.{_≡_};
 ghost use mathlib.Core.List.{map};
 ghost use Prim.Native.Nat.{ℕ, _^_, _≤_, _<_};
 ghost use lib.Dec.{T};
 ghost use lib.ListN.{length, take};
-ghost use Rattle.question.specs.declared.checks.TableCheck.the-variants.{Accepted};
+ghost use Rattle.outcome.specs.declared.checks.Check.the-variants.{Accepted};
 ghost use Rattle.question.specs.Limits.{maxSets, maxTerms};
 ghost use Rattle.theory.specs.Solutions.{allRows};
 ghost use Rattle.theory.specs.FirstModels.{modelOf, firstModel};
@@ -126,7 +126,7 @@ pub fn search(rows: &[u32], terms: usize, sets: u8) -> SearchAnswer
     ensures { λ r. ⌜ r ≡ searched terms sets (now (rows .entry)) ⌝ }
 {
     match check_rows(rows, terms, sets) {
-        TableCheck::Refused(refusal) => without_model(Verdict::Refused(refusal)),
-        TableCheck::Accepted => search_accepted(rows, terms, sets),
+        Check::Refused(refusal) => without_model(Verdict::Refused(refusal)),
+        Check::Accepted => search_accepted(rows, terms, sets),
     }
 }

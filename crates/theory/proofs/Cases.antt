@@ -2,8 +2,8 @@
 use mathlib.Core.Path.{_≡_, refl}
 use mathlib.Core.List.{map}
 use mathlib.Core.Option.{Option}
-use Rattle.question.specs.declared.checks.TableCheck.{TableCheck}
-use Rattle.question.specs.declared.checks.TableCheck.the-variants.{Accepted}
+use Rattle.outcome.specs.declared.checks.Check.{Check}
+use Rattle.outcome.specs.declared.checks.Check.the-variants.{Accepted}
 use Rattle.question.specs.Questions.{statements, witness, witnesses, termsOf}
 use Rattle.question.specs.Admissions.{admission}
 use Rattle.question.specs.Checks.{statementsChecked, checked}
@@ -15,10 +15,10 @@ use Rattle.theory.specs.Answers.{answer}
 use Rattle.theory.specs.Cases.{Case, cases}
 
 -- what is found, and what the table says
-abbrev found : Case → TableCheck × Option Solution
+abbrev found : Case → Check × Option Solution
 found c = (checked (c .asks), answer (c .asks))
 
-abbrev wanted : Case → TableCheck × Option Solution
+abbrev wanted : Case → Check × Option Solution
 wanted c = (Accepted, c .answers)
 
 pub cases-answered : map found cases ≡ map wanted cases

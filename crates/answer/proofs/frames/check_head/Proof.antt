@@ -4,7 +4,7 @@ use mathlib.Core.Bool.{not, cond}
 use borrow.Author.Needs.{needs}
 use borrow.Author.Tests.{lt-ltb, le-ltb, eq-eqb, ne-eqb}
 use lib.Dec.{eqb, ltb}
-use Rattle.question.specs.Refusals.{dataEnds, tagUnknown, tagOutOfPlace, wrongLength}
+use Rattle.outcome.specs.Refusals.{dataEnds, tagUnknown, tagOutOfPlace, wrongLength}
 use Rattle.answer.specs.declared.frames.Frame.the-variants.{Sound, Refused}
 use Rattle.answer.specs.Frames.{framed}
 use Rattle.answer.proofs.frames.check_head.Statement.{statement}

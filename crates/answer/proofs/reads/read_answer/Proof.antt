@@ -3,7 +3,7 @@ use denote.Ref.{now}
 use mathlib.Core.Path.{_≡_, sym, ap, _∙_}
 use native.Mathlib.Omega.{arith}
 use borrow.Author.Needs.{needs}
-use Rattle.question.specs.declared.checks.TableCheck.the-variants.{Accepted}
+use Rattle.outcome.specs.declared.checks.Check.the-variants.{Accepted}
 use Rattle.question.specs.Questions.{termsOf}
 use Rattle.question.specs.Checks.{checked}
 use Rattle.question.proofs.AcceptedLaws.{accepted}

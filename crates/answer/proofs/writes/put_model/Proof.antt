@@ -4,7 +4,7 @@ use mathlib.Core.Path.{_≡_, sym, ap, _∙_}
 use native.Mathlib.Omega.{arith}
 use borrow.Author.Needs.{needs}
 use lib.ListN.{length}
-use Rattle.outcome.specs.Over.{over}
+use Rattle.outcome.specs.Writes.{over}
 use Rattle.answer.specs.Answers.{cutTo, said}
 use Rattle.answer.specs.Bytes.{solutionBytes, modelBytes}
 use Rattle.answer.proofs.AnswerLaws.{said-none, said-some, model-none, model-some}

@@ -4,13 +4,14 @@ use mathlib.Core.Path.{_≡_, sym, ap, _∙_}
 use native.Mathlib.Omega.{arith}
 use borrow.Author.Needs.{needs}
 use lib.ListN.{length}
-use Rattle.question.specs.declared.checks.TableCheck.the-variants.{Accepted}
-use Rattle.question.specs.Checks.{checked, checkedOver}
+use Rattle.outcome.specs.declared.checks.Check.the-variants.{Accepted}
+use Rattle.outcome.specs.Writes.{checkedOver, checkedThen}
+use Rattle.question.specs.Checks.{checked}
 use Rattle.question.specs.Questions.{termsOf}
 use Rattle.question.proofs.AcceptedLaws.{accepted}
 use Rattle.theory.specs.Answers.{maskBound}
 use Rattle.answer.specs.Answers.{said}
-use Rattle.answer.specs.Writes.{goodWritten, goodOver, checkedThen, written, writtenOver}
+use Rattle.answer.specs.Writes.{goodWritten, goodOver, written, writtenOver}
 use Rattle.answer.proofs.writes.write_answer.Statement.{statement}
 use Rattle.answer.proofs.writes.write_answer.Tie as tie
 

@@ -2,7 +2,7 @@
 use mathlib.Core.Path.{refl, sym, ap, _∙_}
 use native.Mathlib.Omega.{arith}
 use borrow.Author.Needs.{needs}
-use Rattle.answer.specs.declared.writes.AnswerWritten.the-variants.{Refused}
+use Rattle.outcome.specs.declared.writes.Written.the-variants.{Refused}
 use Rattle.answer.specs.Answers.{said}
 use Rattle.answer.specs.Writes.{goodWritten, goodOver}
 use Rattle.answer.proofs.GoodLaws.{is-good, is-bad, good-few}

@@ -6,7 +6,7 @@ use native.Mathlib.Omega.{arith}
 use borrow.Author.Needs.{needs}
 use lib.ListN.{length, take, set, getD, length-set}
 use lib.Seq.{take-all}
-use Rattle.outcome.specs.Over.{over}
+use Rattle.outcome.specs.Writes.{over}
 use Rattle.outcome.proofs.OverLaws.{copied}
 use Rattle.field.proofs.writes.put_bytes.Statement.{statement}
 use Rattle.field.proofs.writes.put_bytes.Tie as tie

@@ -2,7 +2,7 @@
 use mathlib.Core.Path.{sym, ap, _∙_}
 use borrow.Author.Needs.{needs}
 use borrow.Author.Tests.{lt-ltb, le-ltb}
-use Rattle.question.specs.declared.checks.TableCheck.the-variants.{Refused}
+use Rattle.outcome.specs.declared.checks.Check.the-variants.{Refused}
 use Rattle.question.specs.Limits.{maxElements, maxSets, maxStatements}
 use Rattle.question.specs.Checks.{checked}
 use Rattle.question.proofs.checks.check.Statement.{statement}

@@ -4,7 +4,7 @@ use mathlib.Core.Path.{_≡_, refl, sym, ap, _∙_}
 use native.Mathlib.Omega.{arith}
 use borrow.Author.Needs.{needs}
 use lib.ListN.{length, getD}
-use Rattle.question.specs.declared.checks.TableCheck.the-variants.{Refused}
+use Rattle.outcome.specs.declared.checks.Check.the-variants.{Refused}
 use Rattle.question.specs.Questions.{idle, witness}
 use Rattle.question.specs.Admissions.{admission}
 use Rattle.question.specs.Checks.{admittedThen}

@@ -6,7 +6,7 @@ use lib.ListN.{length}
 use Rattle.field.specs.declared.tags.File.the-variants.{Question as QuestionFile}
 use Rattle.field.specs.declared.tags.BodyLength.the-variants.{Unknown, Fixed, Depends}
 use Rattle.field.specs.Tags.{lengthOf}
-use Rattle.field.proofs.Never.{never}
+use Rattle.outcome.proofs.Never.{never}
 use Rattle.question_file.specs.Bodies.{bodyOf}
 use Rattle.question_file.proofs.BodyLaws.{field}
 use Rattle.question_file.proofs.bodies.body_length.Statement.{statement}

@@ -4,7 +4,7 @@ use mathlib.Core.Bool.{not, cond}
 use borrow.Author.Needs.{needs}
 use borrow.Author.Tests.{lt-ltb, le-ltb}
 use lib.Dec.{ltb}
-use Rattle.question.specs.Refusals.{dataEnds, tagUnknown, tagOutOfPlace, wrongLength}
+use Rattle.outcome.specs.Refusals.{dataEnds, tagUnknown, tagOutOfPlace, wrongLength}
 use Rattle.question_file.specs.declared.frames.Frame.the-variants.{Sound, Refused}
 use Rattle.question_file.specs.Frames.{inPlace, framed}
 use Rattle.question_file.proofs.frames.check_head.Statement.{statement}

@@ -1,8 +1,8 @@
 -- `refuse_file` puts the empty question beside the refusal.
 use mathlib.Core.Path.{sym, ap, _∙_}
 use borrow.Author.Needs.{needs}
-use Rattle.question.specs.Refusals.{refusal}
-use Rattle.question_file.specs.declared.reads.FileCheck.the-variants.{Refused}
+use Rattle.outcome.specs.Refusals.{refusal}
+use Rattle.outcome.specs.declared.checks.Check.the-variants.{Refused}
 use Rattle.question_file.proofs.AsReadLaws.{declaring-none}
 use Rattle.question_file.proofs.reads.refuse_file.Statement.{statement}
 use Rattle.question_file.proofs.reads.refuse_file.Tie as tie

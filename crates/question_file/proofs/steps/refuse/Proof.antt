@@ -1,7 +1,7 @@
 -- `refuse` puts the empty question beside the refusal.
 use mathlib.Core.Path.{sym, ap, _∙_}
 use borrow.Author.Needs.{needs}
-use Rattle.question.specs.Refusals.{refusal}
+use Rattle.outcome.specs.Refusals.{refusal}
 use Rattle.question_file.specs.declared.steps.Next.the-variants.{Refused}
 use Rattle.question_file.proofs.AsReadLaws.{declaring-none}
 use Rattle.question_file.proofs.steps.refuse.Statement.{statement}

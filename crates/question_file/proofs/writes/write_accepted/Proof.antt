@@ -6,7 +6,7 @@ use borrow.Author.Needs.{needs}
 use borrow.Author.Tests.{lt-ltb, le-ltb}
 use lib.ListN.{length}
 use Rattle.question.proofs.AcceptedLaws.{accepted}
-use Rattle.question_file.specs.declared.writes.Written.the-variants.{Bytes}
+use Rattle.outcome.specs.declared.writes.Written.the-variants.{Count}
 use Rattle.question_file.specs.Bytes.{questionBytes}
 use Rattle.question_file.proofs.writes.write_accepted.Statement.{statement}
 use Rattle.question_file.proofs.writes.write_accepted.Tie as tie
@@ -22,7 +22,7 @@ returns-2 c =
     let f = c .before .before .before .before .before in
     let a = f .before .before .args in
     let room = le-ltb (length (now (a .buf))) (length (questionBytes (a .q))) (omega (arith, f .file-length .ensures, c .before .before .before .before .if1 .left)) in
-    rw room (ap Bytes (f .file-length .ensures), c .before .before .put-question .ensures)
+    rw room (ap Count (f .file-length .ensures), c .before .before .put-question .ensures)
 
 pub write-accepted-spec : {M : Type 1} → statement M
 write-accepted-spec =

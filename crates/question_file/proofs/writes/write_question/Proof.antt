@@ -4,9 +4,8 @@ use mathlib.Core.Path.{sym, ap, _∙_}
 use borrow.Author.Needs.{needs}
 use lib.ListN.{length}
 use Rattle.question_file.specs.Bytes.{questionBytes}
-use Rattle.outcome.specs.Over.{fittedOver}
-use Rattle.question.specs.Checks.{checkedOver}
-use Rattle.question_file.specs.Writes.{fitted, checkedThen, written, writtenOver}
+use Rattle.outcome.specs.Writes.{fittedOver, checkedOver, fitted, checkedThen}
+use Rattle.question_file.specs.Writes.{written, writtenOver}
 use Rattle.question_file.proofs.writes.write_question.Statement.{statement}
 use Rattle.question_file.proofs.writes.write_question.Tie as tie
 

@@ -5,7 +5,7 @@ use mathlib.Core.Path.{sym, ap, _∙_}
 use native.Mathlib.Omega.{arith}
 use borrow.Author.Needs.{needs}
 use lib.ListN.{length}
-use Rattle.reduction.specs.declared.reducing.Reduced.the-variants.{Rows, Refused}
+use Rattle.outcome.specs.declared.writes.Written.the-variants.{Count, Refused}
 use Rattle.reduction.specs.Reducing.{packedRows}
 use Rattle.reduction.proofs.ReducingLaws.{short-answer, rows-answer, short-buffer, rows-buffer}
 use Rattle.reduction.proofs.reducing.reduce_accepted.Statement.{statement}
@@ -24,7 +24,7 @@ returns-2 c =
     let old = now (e .args .rows) in
     let count = c .before .before .before .before .before .count-rows .ensures in
     let room : length (packedRows (e .args .q)) ≤ length old = omega (arith, count, c .before .before .before .before .if1 .left) in
-    (ap Rows count ∙ sym (rows-answer (e .args .q) old (e .pre) room), c .before .before .put-rows .ensures ∙ sym (rows-buffer (e .args .q) old (e .pre) room))
+    (ap Count count ∙ sym (rows-answer (e .args .q) old (e .pre) room), c .before .before .put-rows .ensures ∙ sym (rows-buffer (e .args .q) old (e .pre) room))
 
 pub reduce-accepted-spec : {M : Type 1} → statement M
 reduce-accepted-spec =

@@ -5,7 +5,7 @@ use native.Mathlib.Omega.{arith}
 use borrow.Author.Needs.{needs}
 use borrow.Author.Tests.{not-true, not-false}
 use lib.ListN.{length}
-use Rattle.question.specs.declared.checks.TableCheck.the-variants.{Refused}
+use Rattle.outcome.specs.declared.checks.Check.the-variants.{Refused}
 use Rattle.row.proofs.CheckLaws.{checkFrom, turn, ended}
 use Rattle.row.proofs.checks.check_each.Statement.{statement}
 use Rattle.row.proofs.checks.check_each.Tie as tie

@@ -2,7 +2,7 @@
 use mathlib.Core.Path.{sym, ap, _∙_}
 use borrow.Author.Needs.{needs}
 use borrow.Author.Tests.{lt-ltb, le-ltb}
-use Rattle.question.specs.declared.checks.TableCheck.the-variants.{Refused}
+use Rattle.outcome.specs.declared.checks.Check.the-variants.{Refused}
 use Rattle.question.specs.Limits.{maxTerms, maxSets, maxRows}
 use Rattle.row.specs.Checks.{rowsChecked}
 use Rattle.row.proofs.checks.check_rows.Statement.{statement}

@@ -10,7 +10,7 @@ use lib.ListN.{length, take, drop, length-take, length-drop}
 use Rattle.outcome.proofs.OverLaws.{Run, run-first, run-room, run-on, run-end}
 use Rattle.field.specs.Heads.{fieldBytes}
 use Rattle.field.proofs.WriteLaws.{written}
-use Rattle.answer.specs.declared.writes.AnswerWritten.the-variants.{Refused}
+use Rattle.outcome.specs.declared.writes.Written.the-variants.{Refused}
 use Rattle.answer.specs.Bytes.{endBytes}
 use Rattle.sayfudhoum.specs.Files.{reportBytes}
 use Rattle.sayfudhoum.proofs.files.report.Statement.{statement}

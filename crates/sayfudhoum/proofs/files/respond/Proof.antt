@@ -3,8 +3,7 @@ use denote.Ref.{now}
 use mathlib.Core.Path.{sym, ap, _∙_}
 use borrow.Author.Needs.{needs}
 use lib.ListN.{length}
-use Rattle.outcome.specs.Over.{fittedOver}
-use Rattle.answer.specs.Writes.{fitted}
+use Rattle.outcome.specs.Writes.{fittedOver, fitted}
 use Rattle.sayfudhoum.specs.Files.{responded, respondedOver}
 use Rattle.sayfudhoum.proofs.FileLaws.{refused-response, question-checked, accepted-response}
 use Rattle.sayfudhoum.proofs.files.respond.Statement.{statement}

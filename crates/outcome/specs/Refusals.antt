@@ -1,6 +1,6 @@
 -- The refusal numbers of document 01, and a refusal as its number and place.
 use Prim.Native.Nat.{ℕ}
-use Rattle.question.specs.declared.refusals.Refusal.{Refusal}
+use Rattle.outcome.specs.declared.refusals.Refusal.{Refusal}
 
 -- the data ends within a field or before 7F
 abbrev pub dataEnds : ℕ

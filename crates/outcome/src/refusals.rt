@@ -1,6 +1,6 @@
 // A refusal: its number in document 01, and the place that the number speaks of.
 ghost use mathlib.Core.Path.{_≡_};
-ghost use Rattle.question.specs.Refusals.{refusal};
+ghost use Rattle.outcome.specs.Refusals.{refusal};
 
 pub struct Refusal {
     pub number: u8,

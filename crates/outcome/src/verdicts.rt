@@ -1,0 +1,5 @@
+// The verdict on a question.
+pub enum Verdict {
+    Possible,
+    Impossible,
+}
