@@ -23,7 +23,8 @@ use Rattle.question.proofs.EverywhereLaws.{everywhere-at}
 use Rattle.judge.specs.declared.models.Model.{Model}
 use Rattle.judge.specs.declared.judging.Judgement.the-variants.{Yes, No, Refused}
 use Rattle.judge.specs.Models.{assigned, elementsInside, masksInside, isModel}
-use Rattle.judge.specs.Judgements.{firstFailing, modelJudged, acceptedThen, judged}
+use Rattle.outcome.specs.Checks.{acceptedThen}
+use Rattle.judge.specs.Judgements.{firstFailing, modelJudged, judged}
 
 no-yes : {A : Type 0} {i : ℕ} → No i ≡ Yes → A
 no-yes e = let z : _≡_ {A = ℕ} 0 1 = cc in absurd (omega arith)
@@ -103,7 +104,7 @@ module _ (q : Question) (m : Model) where
   sound e = go (checked q) (isModel (q .elements) (q .sets) m) refl refl e
     where
       go : (t : Check) (b : Bool) → checked q ≡ t → isModel (q .elements) (q .sets) m ≡ b →
-          acceptedThen t (cond b (firstFailing (holds (assigned m)) 0 (statements q)) (Refused (refusal badModel 0))) ≡ Yes → Sound
+          acceptedThen t Refused (cond b (firstFailing (holds (assigned m)) 0 (statements q)) (Refused (refusal badModel 0))) ≡ Yes → Sound
       go (TableRefused r) b p g e = refused-yes e
       go Accepted false p g e = refused-yes e
       go Accepted true p g e = record { question-accepted = accepted q .0 p; model = g; all-hold = all-hold (assigned m) 0 (statements q) e }
@@ -119,7 +120,7 @@ module _ (q : Question) (m : Model) where
   unfolding judged modelJudged
   no-means i e = go (checked q) (isModel (q .elements) (q .sets) m) e
     where
-      go : (t : Check) (b : Bool) → acceptedThen t (cond b (firstFailing (holds (assigned m)) 0 (statements q)) (Refused (refusal badModel 0))) ≡ No i → FirstToFail (assigned m) (statements q) i
+      go : (t : Check) (b : Bool) → acceptedThen t Refused (cond b (firstFailing (holds (assigned m)) 0 (statements q)) (Refused (refusal badModel 0))) ≡ No i → FirstToFail (assigned m) (statements q) i
       go (TableRefused r) b e = refused-no e
       go Accepted false e = refused-no e
       go Accepted true e =

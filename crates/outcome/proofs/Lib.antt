@@ -2,5 +2,6 @@
 pub mod Never
 pub mod CheckLaws
 pub mod OverLaws
+pub mod WriteLaws
 pub mod OneLaw
 pub mod OneResultLaws

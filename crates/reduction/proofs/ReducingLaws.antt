@@ -3,17 +3,17 @@ use Prim.Native.Nat.{ℕ, _+_, _≤_, _<_}
 use mathlib.Core.Path.{_≡_, refl, sym, ap, _∙_}
 use mathlib.Core.List.{List, [], _∷_, _++_, map, map-append}
 use native.Mathlib.Omega.{arith}
-use borrow.Author.Tests.{lt-ltb, le-ltb}
 use lib.ListN.{length, getD, drop, length-append, length-map}
 use Rattle.question.specs.declared.statements.Statement.{Statement}
 use Rattle.question.specs.declared.questions.Record.{Record}
 use Rattle.question.specs.declared.questions.Question.{Question}
-use Rattle.outcome.specs.Writes.{over}
+use Rattle.outcome.specs.Writes.{over, fitted, fittedOver}
+use Rattle.outcome.proofs.WriteLaws.{fits, too-short}
 use Rattle.question.specs.Limits.{maxRows}
 use Rattle.outcome.specs.Refusals.{refusal, bufferTooShort}
 use Rattle.question.specs.Questions.{statements, witness, termsOf}
 use Rattle.outcome.specs.declared.refusals.Refusal.{Refusal}
-use Rattle.outcome.specs.declared.checks.Check.the-variants.{Refused as TableRefused}
+use Rattle.outcome.specs.declared.checks.Check.the-variants.{Refused}
 use Rattle.question.specs.Checks.{checked, IsAccepted}
 use Rattle.question.proofs.AcceptedLaws.{accepted}
 use Rattle.question.proofs.StatementsLaws.{statements-at, statements-end}
@@ -22,9 +22,9 @@ use Rattle.theory.specs.Reduction.{rule, rowList}
 use Rattle.theory.proofs.PlaceLaws.{rule-witness}
 use Rattle.theory.proofs.RowListLaws.{rows-few}
 use Rattle.row.specs.Rows.{packRow}
-use Rattle.outcome.specs.declared.writes.Written.the-variants.{Count, Refused}
+use Rattle.outcome.specs.declared.writes.Written.the-variants.{Count, Refused as NotWritten}
 use Rattle.reduction.specs.Writing.{statementRows}
-use Rattle.reduction.specs.Reducing.{packedRows, reduced, reducedBuffer}
+use Rattle.reduction.specs.Reducing.{packedRows, reduced, reducedOver}
 use Rattle.reduction.proofs.WritingLaws.{rows-written, written-count}
 
 -- the rows of some statements, packed: so many terms, w the next witness
@@ -83,29 +83,19 @@ module _ (q : Question) where
   packed-few accepted = rw (length-map (rowList q) packRow) (rows-few q accepted)
 
 -- what a refused question is answered, and that the buffer then is as it was
-module _ (q : Question) (old : List ℕ) (r : Refusal) (is-refused : checked q ≡ TableRefused r) where
-  pub refused-answer : reduced q (length old) ≡ Refused r
-  unfolding reduced
-  refused-answer = rw is-refused
+module _ (q : Question) (old : List ℕ) (r : Refusal) (is-refused : checked q ≡ Refused r) where
+  pub refused : (reduced q (length old) ≡ NotWritten r) × (reducedOver q old ≡ old)
+  unfolding reduced reducedOver
+  refused = rw is-refused (refl, refl)
 
-  pub refused-buffer : reducedBuffer q old ≡ old
-  unfolding reducedBuffer
-  refused-buffer = rw refused-answer
-
--- what an accepted question is answered, and what the buffer then holds
+-- what an accepted question is answered, and what the buffer then holds: fits or 10
 module _ (q : Question) (old : List ℕ) (is-accepted : IsAccepted q) where
-  pub short-answer : length old < length (packedRows q) → reduced q (length old) ≡ Refused (refusal bufferTooShort 0)
-  unfolding reduced
-  short-answer h = rw (accepted q .1 is-accepted, lt-ltb (length old) (length (packedRows q)) h)
+  pub fitting : (reduced q (length old) ≡ fitted (packedRows q) (length old)) × (reducedOver q old ≡ fittedOver (packedRows q) old)
+  unfolding reduced reducedOver
+  fitting = rw (accepted q .1 is-accepted) (refl, refl)
 
-  pub rows-answer : length (packedRows q) ≤ length old → reduced q (length old) ≡ Count (length (packedRows q))
-  unfolding reduced
-  rows-answer h = rw (accepted q .1 is-accepted, le-ltb (length old) (length (packedRows q)) h)
+  pub short : length old < length (packedRows q) → (reduced q (length old) ≡ NotWritten (refusal bufferTooShort 0)) × (reducedOver q old ≡ old)
+  short h = let s = too-short (packedRows q) old h in (fitting .0 ∙ s .0, fitting .1 ∙ s .1)
 
-  pub short-buffer : length old < length (packedRows q) → reducedBuffer q old ≡ old
-  unfolding reducedBuffer
-  short-buffer h = rw (short-answer h)
-
-  pub rows-buffer : length (packedRows q) ≤ length old → reducedBuffer q old ≡ over (packedRows q) old
-  unfolding reducedBuffer
-  rows-buffer h = rw (rows-answer h)
+  pub whole : length (packedRows q) ≤ length old → (reduced q (length old) ≡ Count (length (packedRows q))) × (reducedOver q old ≡ over (packedRows q) old)
+  whole h = let w = fits (packedRows q) old h in (fitting .0 ∙ w .0, fitting .1 ∙ w .1)

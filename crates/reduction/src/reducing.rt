@@ -15,7 +15,7 @@ ghost use Rattle.outcome.specs.Writes.{over};
 ghost use Rattle.question.specs.Questions.{termsOf};
 ghost use Rattle.question.specs.Checks.{IsAccepted};
 ghost use Rattle.reduction.specs.Writing.{statementRows};
-ghost use Rattle.reduction.specs.Reducing.{packedRows, reduced, reducedBuffer};
+ghost use Rattle.reduction.specs.Reducing.{packedRows, reduced, reducedOver};
 
 // How many rows a statement gives: one for tags 10 to 13 and 21, else one for each term.
 fn row_count(s: Statement, terms: usize) -> usize
@@ -76,7 +76,7 @@ fn put_rows(q: Question, terms: usize, rows: &mut [u32])
 // The reduction of an accepted question: 10 where the buffer is too short.
 fn reduce_accepted(q: Question, rows: &mut [u32]) -> Written
     requires { ⌜ IsAccepted q ⌝ }
-    ensures { λ r. ⌜ (r ≡ reduced q (length (now (rows .entry)))) × (now (rows .exit) ≡ reducedBuffer q (now (rows .entry))) ⌝ }
+    ensures { λ r. ⌜ (r ≡ reduced q (length (now (rows .entry)))) × (now (rows .exit) ≡ reducedOver q (now (rows .entry))) ⌝ }
 {
     let n = terms(q);
     let count = count_rows(q, n);
@@ -89,7 +89,7 @@ fn reduce_accepted(q: Question, rows: &mut [u32]) -> Written
 
 // The rows of a question, packed, from the start of the buffer; their number is given back, and the rest of the buffer is untouched.
 pub fn reduce(q: Question, rows: &mut [u32]) -> Written
-    ensures { λ r. ⌜ (r ≡ reduced q (length (now (rows .entry)))) × (now (rows .exit) ≡ reducedBuffer q (now (rows .entry))) ⌝ }
+    ensures { λ r. ⌜ (r ≡ reduced q (length (now (rows .entry)))) × (now (rows .exit) ≡ reducedOver q (now (rows .entry))) ⌝ }
 {
     let table = check(q);
     match table {

@@ -27,7 +27,7 @@ use Rattle.theory.specs.Sets.{fits}
 use Rattle.theory.specs.Answers.{maskBound, answer}
 use Rattle.row.specs.Rows.{rowOf}
 use Rattle.outcome.specs.declared.writes.Written.the-variants.{Count, Refused as NotReduced}
-use Rattle.reduction.specs.Reducing.{packedRows, reducedThen, reduced, reducedBuffer}
+use Rattle.reduction.specs.Reducing.{packedRows, reducedThen, reduced, reducedOver}
 use Rattle.reduction.proofs.ReducingLaws.{packed-few, rows-buffer}
 use Rattle.reduction.proofs.ReducedRows.{rows-pass, rows-say}
 use Rattle.search.specs.Answers.{answerOf, searched}
@@ -65,7 +65,7 @@ module _ (q : Question) where
         go Accepted false p s e = let same : Count (length (packedRows q)) ≡ NotReduced r = sym (ap (λ b. cond b (NotReduced (refusal bufferTooShort 0)) (Count (length (packedRows q)))) s) ∙ e in never cc
 
   -- the rows stand at the front of the buffer
-  pub rows-stand : (old new : List ℕ) (n : ℕ) → maxRows ≤ length old → new ≡ reducedBuffer q old → reduced q (length old) ≡ Count n → (n ≤ length new) × (take n new ≡ packedRows q)
+  pub rows-stand : (old new : List ℕ) (n : ℕ) → maxRows ≤ length old → new ≡ reducedOver q old → reduced q (length old) ≡ Count n → (n ≤ length new) × (take n new ≡ packedRows q)
   rows-stand old new n enough b e =
       let t = rows-told (length old) enough n e in
       let is = accepted q .0 (t .0) in

@@ -21,7 +21,8 @@ use Rattle.mask.specs.Entries.{rowsOfEntries}
 use Rattle.cut.proofs.BehindLaws.{behind-nothing}
 use Rattle.search.specs.declared.answers.Verdict.the-variants.{Possible, Impossible, Refused}
 use Rattle.search.specs.declared.answers.SearchAnswer.{SearchAnswer}
-use Rattle.search.specs.Answers.{padded, withoutModel, answerOf, acceptedThen, searched}
+use Rattle.outcome.specs.Checks.{acceptedThen}
+use Rattle.search.specs.Answers.{padded, withoutModel, answerOf, searched}
 use Rattle.search.specs.Placings.{found}
 
 -- with no term placed, what is found is the first model
@@ -39,11 +40,11 @@ module _ (terms sets : ℕ) (rows : List ℕ) where
   module _ (r : SearchAnswer) (check : Check) (checked : check ≡ rowsChecked terms sets rows) where
     pub searched-accepted : check ≡ Accepted → r ≡ answerOf first → r ≡ searched terms sets rows
     unfolding searched
-    searched-accepted e is = is ∙ ap (λ t. acceptedThen t (answerOf first)) (sym e ∙ checked)
+    searched-accepted e is = is ∙ ap (λ t. acceptedThen t (λ r. withoutModel (Refused r)) (answerOf first)) (sym e ∙ checked)
 
     pub searched-refused : (why : Refusal) → check ≡ RowsRefused why → r ≡ withoutModel (Refused why) → r ≡ searched terms sets rows
     unfolding searched
-    searched-refused why e is = is ∙ ap (λ t. acceptedThen t (answerOf first)) (sym e ∙ checked)
+    searched-refused why e is = is ∙ ap (λ t. acceptedThen t (λ r. withoutModel (Refused r)) (answerOf first)) (sym e ∙ checked)
 
   module _ (accepted : rowsChecked terms sets rows ≡ Accepted) where
     below : TermsBelow terms said

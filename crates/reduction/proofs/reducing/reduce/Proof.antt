@@ -3,7 +3,7 @@ use denote.Ref.{now}
 use mathlib.Core.Path.{sym, _∙_}
 use borrow.Author.Needs.{needs}
 use Rattle.question.proofs.AcceptedLaws.{accepted}
-use Rattle.reduction.proofs.ReducingLaws.{refused-answer, refused-buffer}
+use Rattle.reduction.proofs.ReducingLaws.{refused}
 use Rattle.reduction.proofs.reducing.reduce.Statement.{statement}
 use Rattle.reduction.proofs.reducing.reduce.Tie as tie
 
@@ -13,8 +13,8 @@ reduce-accepted-requires c κs = accepted (c .before .before .before .before .be
 returns : tie.Need-returns
 returns c =
     let e = c .before .before .before .before .before in
-    let refused = sym (c .before .before .before .check .ensures) ∙ c .before .table .given .1 in
-    (sym (refused-answer (e .args .q) (now (e .args .rows)) _ refused), sym (refused-buffer (e .args .q) (now (e .args .rows)) _ refused))
+    let left = refused (e .args .q) (now (e .args .rows)) _ (sym (c .before .before .before .check .ensures) ∙ c .before .table .given .1) in
+    (sym (left .0), sym (left .1))
 
 pub reduce-spec : {M : Type 1} → statement M
 reduce-spec =

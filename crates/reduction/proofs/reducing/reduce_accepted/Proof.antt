@@ -1,13 +1,10 @@
 -- `reduce_accepted` refuses a buffer that is too short, and else writes the rows.
 use denote.Ref.{now}
-use Prim.Native.Nat.{_≤_, _<_}
 use mathlib.Core.Path.{sym, ap, _∙_}
 use native.Mathlib.Omega.{arith}
 use borrow.Author.Needs.{needs}
-use lib.ListN.{length}
 use Rattle.outcome.specs.declared.writes.Written.the-variants.{Count, Refused}
-use Rattle.reduction.specs.Reducing.{packedRows}
-use Rattle.reduction.proofs.ReducingLaws.{short-answer, rows-answer, short-buffer, rows-buffer}
+use Rattle.reduction.proofs.ReducingLaws.{short, whole}
 use Rattle.reduction.proofs.reducing.reduce_accepted.Statement.{statement}
 use Rattle.reduction.proofs.reducing.reduce_accepted.Tie as tie
 
@@ -15,16 +12,16 @@ returns : tie.Need-returns
 returns c =
     let e = c .before .before .before .before .before in
     let old = now (e .args .rows) in
-    let short : length old < length (packedRows (e .args .q)) = omega (arith, c .before .before .count-rows .ensures, c .before .if1 .taken) in
-    (ap Refused (c .new .ensures) ∙ sym (short-answer (e .args .q) old (e .pre) short), sym (short-buffer (e .args .q) old (e .pre) short))
+    let left = short (e .args .q) old (e .pre) (omega (arith, c .before .before .count-rows .ensures, c .before .if1 .taken)) in
+    (ap Refused (c .new .ensures) ∙ sym (left .0), sym (left .1))
 
 returns-2 : tie.Need-returns-2
 returns-2 c =
     let e = c .before .before .before .before .before .before .before .before in
     let old = now (e .args .rows) in
     let count = c .before .before .before .before .before .count-rows .ensures in
-    let room : length (packedRows (e .args .q)) ≤ length old = omega (arith, count, c .before .before .before .before .if1 .left) in
-    (ap Count count ∙ sym (rows-answer (e .args .q) old (e .pre) room), c .before .before .put-rows .ensures ∙ sym (rows-buffer (e .args .q) old (e .pre) room))
+    let left = whole (e .args .q) old (e .pre) (omega (arith, count, c .before .before .before .before .if1 .left)) in
+    (ap Count count ∙ sym (left .0), c .before .before .put-rows .ensures ∙ sym (left .1))
 
 pub reduce-accepted-spec : {M : Type 1} → statement M
 reduce-accepted-spec =
