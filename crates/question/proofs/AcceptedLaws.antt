@@ -18,8 +18,9 @@ use Rattle.outcome.specs.Refusals.{refusal, tooManyNames, tooManyStatements}
 use Rattle.outcome.proofs.CheckLaws.{refused-accepted}
 use Rattle.question.specs.Statements.{makesWitness}
 use Rattle.question.specs.Questions.{statements, witness, witnesses, termsOf}
-use Rattle.question.specs.Admissions.{nameTest, oneTooMany, namesThen, admission}
-use Rattle.question.specs.Checks.{admittedThen, statementsChecked, checked, AllDeclared, IsAccepted}
+use Rattle.question.specs.Admissions.{nameTest, oneTooMany, namesThen, admission, admittedAt}
+use Rattle.question.specs.Checks.{statementsChecked, checked, AllDeclared, IsAccepted}
+use Rattle.outcome.specs.Checks.{acceptedThen}
 
 -- a statement that is not one too many keeps T within its limit, and the other way round
 module _ (t : ℕ) (s : Statement) where
@@ -49,7 +50,7 @@ module _ (E S : ℕ) where
       rest : Check
       rest = statementsChecked E S (suc i) (t + witness s) ss
 
-      go : (n : NameTest) (b : Bool) → nameTest E S s ≡ n → oneTooMany t s ≡ b → admittedThen i (namesThen n b) rest ≡ Accepted →
+      go : (n : NameTest) (b : Bool) → nameTest E S s ≡ n → oneTooMany t s ≡ b → acceptedThen (admittedAt i (namesThen n b)) Refused rest ≡ Accepted →
           (t + witness s ≤ maxTerms → rest ≡ Accepted → AllDeclared E S ss × (t + witness s + witnesses ss ≤ maxTerms)) → AllDeclared E S (s ∷ ss) × (t + (witness s + witnesses ss) ≤ maxTerms)
       go (Undeclared at) b p q r k = refused-accepted r
       go Declared true p q r k = refused-accepted r
@@ -66,7 +67,7 @@ module _ (q : Question) where
   keeps e = go (ltb maxElements (q .elements)) (ltb maxSets (q .sets)) (ltb maxStatements (q .count)) refl refl refl e
     where
       go : (a b c : Bool) → ltb maxElements (q .elements) ≡ a → ltb maxSets (q .sets) ≡ b → ltb maxStatements (q .count) ≡ c →
-          cond (a || b) (Refused (refusal tooManyNames 0)) (cond c (Refused (refusal tooManyStatements 0)) (statementsChecked (q .elements) (q .sets) 0 (q .elements) (statements q))) ≡ Accepted → IsAccepted q
+          acceptedThen (cond (a || b) (Refused (refusal tooManyNames 0)) Accepted) Refused (cond c (Refused (refusal tooManyStatements 0)) (statementsChecked (q .elements) (q .sets) 0 (q .elements) (statements q))) ≡ Accepted → IsAccepted q
       go true b c p r s e = refused-accepted e
       go false true c p r s e = refused-accepted e
       go false false true p r s e = refused-accepted e

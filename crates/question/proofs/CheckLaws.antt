@@ -6,10 +6,11 @@ use lib.ListN.{length, getD, drop}
 use Rattle.question.specs.declared.questions.Record.{Record}
 use Rattle.question.specs.declared.questions.Question.{Question}
 use Rattle.outcome.specs.declared.checks.Check.{Check}
-use Rattle.outcome.specs.declared.checks.Check.the-variants.{Accepted}
+use Rattle.outcome.specs.declared.checks.Check.the-variants.{Accepted, Refused}
 use Rattle.question.specs.Questions.{statements, witness}
-use Rattle.question.specs.Admissions.{admission}
-use Rattle.question.specs.Checks.{admittedThen, statementsChecked}
+use Rattle.question.specs.Admissions.{admission, admittedAt}
+use Rattle.question.specs.Checks.{statementsChecked}
+use Rattle.outcome.specs.Checks.{acceptedThen}
 use Rattle.question.proofs.StatementsLaws.{statements-at, statements-end}
 
 module _ (q : Question) where
@@ -18,9 +19,9 @@ module _ (q : Question) where
   checkFrom i t = statementsChecked (q .elements) (q .sets) i t (drop i (statements q))
 
   pub turn : (i t : ℕ) (d : Record) → i < q .count → i < length (q .table) →
-      checkFrom i t ≡ admittedThen i (admission (q .elements) (q .sets) t (getD (q .table) i d .statement)) (checkFrom (i + 1) (t + witness (getD (q .table) i d .statement)))
+      checkFrom i t ≡ acceptedThen (admittedAt i (admission (q .elements) (q .sets) t (getD (q .table) i d .statement))) Refused (checkFrom (i + 1) (t + witness (getD (q .table) i d .statement)))
   unfolding statementsChecked
-  turn i t d below inside = rw (statements-at q i d below inside) (ap (λ n. admittedThen i (admission (q .elements) (q .sets) t (getD (q .table) i d .statement)) (statementsChecked (q .elements) (q .sets) n (t + witness (getD (q .table) i d .statement)) (drop (i + 1) (statements q)))) (sym (add-one i)))
+  turn i t d below inside = rw (statements-at q i d below inside) (ap (λ n. acceptedThen (admittedAt i (admission (q .elements) (q .sets) t (getD (q .table) i d .statement))) Refused (statementsChecked (q .elements) (q .sets) n (t + witness (getD (q .table) i d .statement)) (drop (i + 1) (statements q)))) (sym (add-one i)))
 
   pub ended : (i t : ℕ) → q .count ≤ i → checkFrom i t ≡ Accepted
   unfolding statementsChecked

@@ -2,6 +2,7 @@
 pub mod TestLaws
 pub mod StatementsLaws
 pub mod CheckLaws
+pub mod BuildLaws
 pub mod EverywhereLaws
 pub mod AcceptedLaws
 pub mod NamesLaws

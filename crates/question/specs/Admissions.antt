@@ -1,14 +1,17 @@
--- Which statements may stand in a question: names declared (6), no witness too many (8).
+-- Which statements may stand in a question: names declared (6), no witness too many (8); and which may be added: not one too many (7).
 use Prim.Native.Nat.{ℕ, suc, _+_}
 use mathlib.Core.Bool.{Bool, _&&_, cond}
 use mathlib.Core.List.{List, [], _∷_, map}
-use lib.Dec.{ltb}
+use lib.Dec.{ltb, leb}
+use Rattle.outcome.specs.declared.checks.Check.{Check}
+use Rattle.outcome.specs.declared.checks.Check.the-variants.{Accepted, Refused}
+use Rattle.outcome.specs.Refusals.{refusal, nameNotDeclared, tooManyStatements, tooManyTerms}
 use Rattle.question.specs.declared.statements.Statement.{Statement}
 use Rattle.question.specs.declared.admissions.NameTest.{NameTest}
 use Rattle.question.specs.declared.admissions.NameTest.the-variants.{Declared, Undeclared as NotDeclared}
 use Rattle.question.specs.declared.admissions.Admission.{Admission}
-use Rattle.question.specs.declared.admissions.Admission.the-variants.{Admitted, Undeclared, TooManyTerms}
-use Rattle.question.specs.Limits.{maxTerms}
+use Rattle.question.specs.declared.admissions.Admission.the-variants.{Admitted, TooManyStatements, Undeclared, TooManyTerms}
+use Rattle.question.specs.Limits.{maxStatements, maxTerms}
 use Rattle.question.specs.Statements.{Name, element, set, namesOf, makesWitness}
 
 -- a name is declared if it is below the number of names of its sort
@@ -34,6 +37,17 @@ abbrev pub namesThen : NameTest → Bool → Admission
 namesThen (NotDeclared at) tooMany = Undeclared at
 namesThen Declared tooMany = cond tooMany TooManyTerms Admitted
 
--- may the statement s be added where t terms stand already
+-- may the statement s stand where t terms stand already
 unfoldable pub admission : ℕ → ℕ → ℕ → Statement → Admission
 admission E S t s = namesThen (nameTest E S s) (oneTooMany t s)
+
+-- may it be added behind n statements: 7, then 6 and 8
+unfoldable pub addition : ℕ → ℕ → ℕ → ℕ → Statement → Admission
+addition E S n t s = cond (leb maxStatements n) TooManyStatements (admission E S t s)
+
+-- accepted, or the refusal at a place
+abbrev pub admittedAt : ℕ → Admission → Check
+admittedAt place Admitted = Accepted
+admittedAt place TooManyStatements = Refused (refusal tooManyStatements place)
+admittedAt place (Undeclared at) = Refused (refusal nameNotDeclared place)
+admittedAt place TooManyTerms = Refused (refusal tooManyTerms place)

@@ -6,31 +6,28 @@ use mathlib.Core.Path.{_≡_}
 use lib.Dec.{ltb}
 use Rattle.question.specs.declared.statements.Statement.{Statement}
 use Rattle.question.specs.declared.questions.Question.{Question}
-use Rattle.question.specs.declared.admissions.Admission.{Admission}
-use Rattle.question.specs.declared.admissions.Admission.the-variants.{Admitted, Undeclared, TooManyTerms}
 use Rattle.question.specs.declared.admissions.NameTest.the-variants.{Declared}
 use Rattle.outcome.specs.declared.checks.Check.{Check}
 use Rattle.outcome.specs.declared.checks.Check.the-variants.{Accepted, Refused}
 use Rattle.question.specs.Limits.{maxElements, maxSets, maxStatements, maxTerms}
-use Rattle.outcome.specs.Refusals.{refusal, tooManyNames, nameNotDeclared, tooManyStatements, tooManyTerms}
+use Rattle.outcome.specs.Refusals.{refusal, tooManyNames, tooManyStatements}
 use Rattle.question.specs.Questions.{statements, witness, termsOf}
-use Rattle.question.specs.Admissions.{nameTest, admission}
+use Rattle.question.specs.Admissions.{nameTest, admission, admittedAt}
+use Rattle.outcome.specs.Checks.{acceptedThen}
 
--- what follows where a statement is admitted, else its refusal at the index i
-abbrev pub admittedThen : ℕ → Admission → Check → Check
-admittedThen i Admitted rest = rest
-admittedThen i (Undeclared at) rest = Refused (refusal nameNotDeclared i)
-admittedThen i TooManyTerms rest = Refused (refusal tooManyTerms i)
+-- E or S above its limit: 5
+abbrev pub namesCheckedAt : ℕ → ℕ → ℕ → Check
+namesCheckedAt place E S = cond (ltb maxElements E || ltb maxSets S) (Refused (refusal tooManyNames place)) Accepted
 
 -- statement by statement from the index i on, where t terms stand
 unfoldable pub statementsChecked : ℕ → ℕ → ℕ → ℕ → List Statement → Check
 statementsChecked E S i t [] = Accepted
-statementsChecked E S i t (s ∷ ss) = admittedThen i (admission E S t s) (statementsChecked E S (suc i) (t + witness s) ss)
+statementsChecked E S i t (s ∷ ss) = acceptedThen (admittedAt i (admission E S t s)) Refused (statementsChecked E S (suc i) (t + witness s) ss)
 
 -- 5, then 7 (place 0), then statement by statement 6, 8 (place its index)
 unfoldable pub checked : Question → Check
 checked q =
-    cond (ltb maxElements (q .elements) || ltb maxSets (q .sets)) (Refused (refusal tooManyNames 0))
+    acceptedThen (namesCheckedAt 0 (q .elements) (q .sets)) Refused
     (cond (ltb maxStatements (q .count)) (Refused (refusal tooManyStatements 0))
     (statementsChecked (q .elements) (q .sets) 0 (q .elements) (statements q)))
 

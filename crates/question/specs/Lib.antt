@@ -4,5 +4,6 @@ pub mod Statements
 pub mod Questions
 pub mod Admissions
 pub mod Checks
+pub mod Builds
 pub mod Masks
 pub mod Meaning

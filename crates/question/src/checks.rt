@@ -1,5 +1,4 @@
 // The check of a question that is handed in as a table, and the number of its terms.
-use crate::admissions::Admission;
 use crate::admissions::admit;
 use crate::questions::Question;
 use crate::statements::Statement;
@@ -9,7 +8,7 @@ ghost use mathlib.Core.Path.{_≡_};
 ghost use Prim.Native.Nat.{_≤_};
 ghost use Rattle.question.specs.Limits.{maxStatements};
 ghost use Rattle.question.specs.Questions.{statements, witness, termsOf};
-ghost use Rattle.question.specs.Checks.{statementsChecked, checked};
+ghost use Rattle.question.specs.Checks.{namesCheckedAt, statementsChecked, checked};
 
 // How many witnesses a statement makes.
 pub fn witness_of(s: Statement) -> usize
@@ -32,17 +31,27 @@ fn check_statements(q: Question) -> Check
     while i < count {
         let entry = q.table[i];
         let s = entry.statement;
-        match admit(s, elements, sets, terms) {
-            Admission::Undeclared(_) => {
-                return Check::Refused(Refusal::new(Refusal::NAME_NOT_DECLARED, i));
+        match admit(s, elements, sets, terms).at(i) {
+            Check::Refused(refusal) => {
+                return Check::Refused(refusal);
             }
-            Admission::TooManyTerms => {
-                return Check::Refused(Refusal::new(Refusal::TOO_MANY_TERMS, i));
-            }
-            Admission::Admitted => {}
+            Check::Accepted => {}
         }
         terms += witness_of(s);
         i += 1;
+    }
+    Check::Accepted
+}
+
+// The numbers of names: 5 at a place.
+pub fn check_names(elements: u8, sets: u8, place: usize) -> Check
+    ensures { λ r. ⌜ r ≡ namesCheckedAt place elements sets ⌝ }
+{
+    if Question::MAX_ELEMENTS < elements {
+        return Check::Refused(Refusal::new(Refusal::TOO_MANY_NAMES, place));
+    }
+    if Question::MAX_SETS < sets {
+        return Check::Refused(Refusal::new(Refusal::TOO_MANY_NAMES, place));
     }
     Check::Accepted
 }
@@ -51,16 +60,15 @@ fn check_statements(q: Question) -> Check
 pub fn check(q: Question) -> Check
     ensures { λ r. ⌜ r ≡ checked q ⌝ }
 {
-    if Question::MAX_ELEMENTS < q.elements {
-        return Check::Refused(Refusal::new(Refusal::TOO_MANY_NAMES, 0));
+    match check_names(q.elements, q.sets, 0) {
+        Check::Refused(refusal) => Check::Refused(refusal),
+        Check::Accepted => {
+            if Question::MAX_STATEMENTS < q.count {
+                return Check::Refused(Refusal::new(Refusal::TOO_MANY_STATEMENTS, 0));
+            }
+            check_statements(q)
+        }
     }
-    if Question::MAX_SETS < q.sets {
-        return Check::Refused(Refusal::new(Refusal::TOO_MANY_NAMES, 0));
-    }
-    if Question::MAX_STATEMENTS < q.count {
-        return Check::Refused(Refusal::new(Refusal::TOO_MANY_STATEMENTS, 0));
-    }
-    check_statements(q)
 }
 
 // T, the number of terms: the element names, and a witness for each statement x ≠ y before the count.
