@@ -17,6 +17,14 @@ short (a ∷ []) h = refl
 short (a ∷ b ∷ []) h = refl
 short (a ∷ b ∷ c ∷ bytes) h = absurd (omega arith)
 
+-- a head has three bytes
+pub head-there : (rest : List ℕ) (tag n : ℕ) → headOf rest ≡ Whole tag n → 3 ≤ length rest
+unfolding headOf
+head-there [] tag n e = never cc
+head-there (a ∷ []) tag n e = never cc
+head-there (a ∷ b ∷ []) tag n e = never cc
+head-there (a ∷ b ∷ c ∷ rest) tag n e = omega arith
+
 -- the first three bytes at a place
 three-at : (bytes : List ℕ) (at : ℕ) → at + 2 < length bytes → drop at bytes ≡ getD bytes at 0 ∷ getD bytes (at + 1) 0 ∷ getD bytes (at + 2) 0 ∷ drop (suc (suc (suc at))) bytes
 three-at bytes at h =

@@ -9,6 +9,10 @@ use Rattle.field.specs.declared.heads.Head.the-variants.{Short, Whole}
 abbrev pub fieldBytes : ℕ → List ℕ → List ℕ
 fieldBytes tag body = tag ∷ length body / 256 ∷ length body % 256 ∷ body
 
+-- field 7F, with which every file ends
+abbrev pub endBytes : List ℕ
+endBytes = fieldBytes 0x7f []
+
 -- the head with which a field begins: its tag and length, or that fewer than three bytes are there
 unfoldable pub headOf : List ℕ → Head
 headOf [] = Short

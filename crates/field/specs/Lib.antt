@@ -1,4 +1,6 @@
 -- The definitions that the contracts cite.
 pub mod Tags
 pub mod Heads
+pub mod Frames
 pub mod Writes
+pub mod Numbers

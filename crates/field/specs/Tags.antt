@@ -1,12 +1,12 @@
 -- The one table of tags and body lengths of document 01, and what each kind of file knows of it.
 use Prim.Native.Nat.{ℕ}
-use mathlib.Core.Bool.{Bool, true, false, _&&_, cond}
+use mathlib.Core.Bool.{Bool, true, false, cond}
 use mathlib.Core.List.{List, [], _∷_}
 use lib.Dec.{eqb}
 use Rattle.field.specs.declared.tags.File.{File}
-use Rattle.field.specs.declared.tags.File.the-variants.{Question as QuestionFile, Answer as AnswerFile}
+use Rattle.field.specs.declared.tags.File.the-variants.{Question, Answer, Report}
 use Rattle.field.specs.declared.tags.Home.{Home}
-use Rattle.field.specs.declared.tags.Home.the-variants.{Question, Answer, Every, Report}
+use Rattle.field.specs.declared.tags.Home.the-variants.{In, Every}
 use Rattle.field.specs.declared.tags.BodyLength.{BodyLength}
 use Rattle.field.specs.declared.tags.BodyLength.the-variants.{Unknown, Fixed, Depends}
 use Rattle.field.specs.declared.tags.Entry.{Entry}
@@ -15,51 +15,47 @@ use Rattle.field.specs.declared.tags.Entry.{Entry}
 abbrev pub entry : ℕ → BodyLength → Home → Entry
 entry tag length home = record { 0 = tag; 1 = length; 2 = home }
 
--- what is read past the table's end
-abbrev pub noEntry : Entry
-noEntry = entry 0 Unknown Question
-
--- the table: each tag of question and answer files with its body length
+-- the table: each tag of question and answer files and of reports with its body length
 abbrev pub fieldTable : List Entry
 fieldTable =
-    entry 0x01 (Fixed 2) Question
-    ∷ entry 0x10 (Fixed 2) Question
-    ∷ entry 0x11 (Fixed 2) Question
-    ∷ entry 0x12 (Fixed 2) Question
-    ∷ entry 0x13 (Fixed 2) Question
-    ∷ entry 0x20 (Fixed 2) Question
-    ∷ entry 0x21 (Fixed 2) Question
-    ∷ entry 0x22 (Fixed 1) Question
-    ∷ entry 0x23 (Fixed 2) Question
-    ∷ entry 0x30 (Fixed 3) Question
-    ∷ entry 0x31 (Fixed 3) Question
-    ∷ entry 0x32 (Fixed 3) Question
-    ∷ entry 0x40 (Fixed 1) Answer
-    ∷ entry 0x41 Depends Answer
-    ∷ entry 0x42 Depends Answer
-    ∷ entry 0x44 (Fixed 3) Report
+    entry 0x01 (Fixed 2) (In Question)
+    ∷ entry 0x10 (Fixed 2) (In Question)
+    ∷ entry 0x11 (Fixed 2) (In Question)
+    ∷ entry 0x12 (Fixed 2) (In Question)
+    ∷ entry 0x13 (Fixed 2) (In Question)
+    ∷ entry 0x20 (Fixed 2) (In Question)
+    ∷ entry 0x21 (Fixed 2) (In Question)
+    ∷ entry 0x22 (Fixed 1) (In Question)
+    ∷ entry 0x23 (Fixed 2) (In Question)
+    ∷ entry 0x30 (Fixed 3) (In Question)
+    ∷ entry 0x31 (Fixed 3) (In Question)
+    ∷ entry 0x32 (Fixed 3) (In Question)
+    ∷ entry 0x40 (Fixed 1) (In Answer)
+    ∷ entry 0x41 Depends (In Answer)
+    ∷ entry 0x42 Depends (In Answer)
+    ∷ entry 0x44 (Fixed 3) (In Report)
     ∷ entry 0x7f (Fixed 0) Every
     ∷ []
 
+-- the kinds of files are told apart by a number
+abbrev pub fileNumber : File → ℕ
+fileNumber Question = 0
+fileNumber Answer = 1
+fileNumber Report = 2
+
 -- each kind of file knows its own tags, and those of every file
 abbrev pub knows : File → Home → Bool
-knows QuestionFile Question = true
-knows QuestionFile Answer = false
-knows QuestionFile Every = true
-knows QuestionFile Report = false
-knows AnswerFile Question = false
-knows AnswerFile Answer = true
-knows AnswerFile Every = true
-knows AnswerFile Report = false
+knows file (In own) = eqb (fileNumber file) (fileNumber own)
+knows file Every = true
 
--- is this the entry of the tag, and does the file know it
-abbrev pub stands : File → ℕ → Entry → Bool
-stands file tag e = eqb (e .0) tag && knows file (e .2)
+-- what a file knows of an entry's tag
+abbrev pub knownOf : File → Entry → BodyLength
+knownOf file e = cond (knows file (e .2)) (e .1) Unknown
 
 -- what a file knows of a tag, by the entries of a table
 unfoldable pub lengthIn : File → List Entry → ℕ → BodyLength
 lengthIn file [] tag = Unknown
-lengthIn file (e ∷ es) tag = cond (stands file tag e) (e .1) (lengthIn file es tag)
+lengthIn file (e ∷ es) tag = cond (eqb (e .0) tag) (knownOf file e) (lengthIn file es tag)
 
 -- what a file knows of a tag
 abbrev pub lengthOf : File → ℕ → BodyLength
@@ -71,8 +67,8 @@ isKnown Unknown = false
 isKnown (Fixed n) = true
 isKnown Depends = true
 
--- may a body be this long, as far as the table tells: a length that depends is for the caller to judge
-abbrev pub isAllowed : BodyLength → ℕ → Bool
-isAllowed Unknown n = false
-isAllowed (Fixed due) n = eqb n due
-isAllowed Depends n = true
+-- may a body have n bytes, where a length that depends is `size`
+abbrev pub isAllowed : BodyLength → ℕ → ℕ → Bool
+isAllowed Unknown size n = false
+isAllowed (Fixed due) size n = eqb n due
+isAllowed Depends size n = eqb n size

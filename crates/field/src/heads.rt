@@ -11,7 +11,7 @@ pub enum Head {
 }
 
 // The head of the field that begins at a place.
-pub fn head_at(bytes: &[u8], at: usize) -> Head
+pub(crate) fn head_at(bytes: &[u8], at: usize) -> Head
     ensures { λ r. ⌜ r ≡ headOf (drop at (now (bytes .entry))) ⌝ }
 {
     if bytes.len() < at {

@@ -2,20 +2,20 @@
 ghost use mathlib.Core.Path.{_≡_};
 ghost use Prim.Native.Nat.{_<_};
 ghost use lib.ListN.{length};
-ghost use Rattle.field.specs.Tags.{knows, stands, lengthOf, isKnown, isAllowed};
+ghost use Rattle.field.specs.Tags.{fileNumber, knows, knownOf, lengthOf, isKnown, isAllowed};
 
-// The kinds of files that are read.
+// The kinds of files.
 pub enum File {
     Question,
     Answer,
+    // A report is written and never read.
+    Report,
 }
 
-// The files in which a tag stands. A report is written and never read.
+// The files in which a tag stands.
 pub enum Home {
-    Question,
-    Answer,
+    In(File),
     Every,
-    Report,
 }
 
 // What a file knows of a tag.
@@ -31,54 +31,58 @@ pub enum BodyLength {
 pub struct Entry(pub u8, pub BodyLength, pub Home);
 
 const FIELDS: [Entry; 17] = [
-    Entry(0x01, BodyLength::Fixed(2), Home::Question),
-    Entry(0x10, BodyLength::Fixed(2), Home::Question),
-    Entry(0x11, BodyLength::Fixed(2), Home::Question),
-    Entry(0x12, BodyLength::Fixed(2), Home::Question),
-    Entry(0x13, BodyLength::Fixed(2), Home::Question),
-    Entry(0x20, BodyLength::Fixed(2), Home::Question),
-    Entry(0x21, BodyLength::Fixed(2), Home::Question),
-    Entry(0x22, BodyLength::Fixed(1), Home::Question),
-    Entry(0x23, BodyLength::Fixed(2), Home::Question),
-    Entry(0x30, BodyLength::Fixed(3), Home::Question),
-    Entry(0x31, BodyLength::Fixed(3), Home::Question),
-    Entry(0x32, BodyLength::Fixed(3), Home::Question),
-    Entry(0x40, BodyLength::Fixed(1), Home::Answer),
-    Entry(0x41, BodyLength::Depends, Home::Answer),
-    Entry(0x42, BodyLength::Depends, Home::Answer),
-    Entry(0x44, BodyLength::Fixed(3), Home::Report),
+    Entry(0x01, BodyLength::Fixed(2), Home::In(File::Question)),
+    Entry(0x10, BodyLength::Fixed(2), Home::In(File::Question)),
+    Entry(0x11, BodyLength::Fixed(2), Home::In(File::Question)),
+    Entry(0x12, BodyLength::Fixed(2), Home::In(File::Question)),
+    Entry(0x13, BodyLength::Fixed(2), Home::In(File::Question)),
+    Entry(0x20, BodyLength::Fixed(2), Home::In(File::Question)),
+    Entry(0x21, BodyLength::Fixed(2), Home::In(File::Question)),
+    Entry(0x22, BodyLength::Fixed(1), Home::In(File::Question)),
+    Entry(0x23, BodyLength::Fixed(2), Home::In(File::Question)),
+    Entry(0x30, BodyLength::Fixed(3), Home::In(File::Question)),
+    Entry(0x31, BodyLength::Fixed(3), Home::In(File::Question)),
+    Entry(0x32, BodyLength::Fixed(3), Home::In(File::Question)),
+    Entry(0x40, BodyLength::Fixed(1), Home::In(File::Answer)),
+    Entry(0x41, BodyLength::Depends, Home::In(File::Answer)),
+    Entry(0x42, BodyLength::Depends, Home::In(File::Answer)),
+    Entry(0x44, BodyLength::Fixed(3), Home::In(File::Report)),
     Entry(0x7f, BodyLength::Fixed(0), Home::Every),
 ];
 
-// Does a kind of file know the tags that stand there.
-fn known_at(file: File, home: Home) -> bool
-    ensures { λ r. ⌜ r ≡ knows file home ⌝ }
-{
-    match file {
-        File::Question => match home {
-            Home::Question => true,
-            Home::Answer => false,
-            Home::Every => true,
-            Home::Report => false,
-        },
-        File::Answer => match home {
-            Home::Question => false,
-            Home::Answer => true,
-            Home::Every => true,
-            Home::Report => false,
-        },
+impl File {
+    // The kinds of files are told apart by a number.
+    fn number(self) -> u8
+        ensures { λ r. ⌜ r ≡ fileNumber self ⌝ }
+    {
+        match self {
+            File::Question => 0,
+            File::Answer => 1,
+            File::Report => 2,
+        }
     }
 }
 
-// Is this the entry of the tag, and does the file know it.
-fn is_entry(file: File, tag: u8, e: Entry) -> bool
-    ensures { λ r. ⌜ r ≡ stands file tag e ⌝ }
+// Does a kind of file know the tags that stand there.
+fn is_home(file: File, home: Home) -> bool
+    ensures { λ r. ⌜ r ≡ knows file home ⌝ }
+{
+    match home {
+        Home::In(own) => file.number() == own.number(),
+        Home::Every => true,
+    }
+}
+
+// What a file knows of an entry's tag.
+fn known_of(file: File, e: Entry) -> BodyLength
+    ensures { λ r. ⌜ r ≡ knownOf file e ⌝ }
 {
     let home = e.2;
-    if e.0 == tag {
-        return known_at(file, home);
+    if is_home(file, home) {
+        let length = e.1;
+        return length;
     }
-    false
+    BodyLength::Unknown
 }
 
 // What a file knows of a tag.
@@ -89,9 +93,8 @@ pub fn length_of(file: File, tag: u8) -> BodyLength
     let mut i: usize = 0;
     while i < FIELDS.len() {
         let e = table[i];
-        if is_entry(file, tag, e) {
-            let length = e.1;
-            return length;
+        if e.0 == tag {
+            return known_of(file, e);
         }
         i += 1;
     }
@@ -100,7 +103,7 @@ pub fn length_of(file: File, tag: u8) -> BodyLength
 
 impl BodyLength {
     // Does the file know the tag.
-    pub fn is_known(self) -> bool
+    pub(crate) fn is_known(self) -> bool
         ensures { λ r. ⌜ r ≡ isKnown self ⌝ }
     {
         match self {
@@ -110,14 +113,14 @@ impl BodyLength {
         }
     }
 
-    // May a body be this long, as far as the table tells; a length that depends is for the caller to judge.
-    pub fn is_allowed(self, length: usize) -> bool
-        ensures { λ r. ⌜ r ≡ isAllowed self length ⌝ }
+    // May a body be this long, where a length that depends is `size`.
+    pub(crate) fn is_allowed(self, size: usize, length: usize) -> bool
+        ensures { λ r. ⌜ r ≡ isAllowed self size length ⌝ }
     {
         match self {
             BodyLength::Unknown => false,
             BodyLength::Fixed(due) => length == due,
-            BodyLength::Depends => true,
+            BodyLength::Depends => length == size,
         }
     }
 }

@@ -1,12 +1,36 @@
-// Writing a field. Each writer receives the rest of the lent buffer and writes at its front.
+// The length of a field, and writing it. Each writer receives the rest of the lent buffer and writes at its front.
+use crate::tags::BodyLength;
+use crate::tags::File;
+use crate::tags::length_of;
 ghost use mathlib.Core.Path.{_≡_};
 ghost use mathlib.Core.List.{[], _∷_};
 ghost use Prim.Native.Nat.{_/_, _%_, _≤_};
 ghost use lib.ListN.{length};
 ghost use Rattle.outcome.specs.Writes.{over};
-ghost use Rattle.field.specs.Writes.{longestBody, fieldCount, fieldOver};
+ghost use Rattle.field.specs.Writes.{longestBody, withHead, fieldLength, fieldCount, fieldOver};
 
 const LONGEST_BODY: usize = 65535;
+
+// How many bytes a field with such a body has; none, where two bytes can't say its length.
+fn with_head(n: usize) -> usize
+    ensures { λ r. ⌜ r ≡ withHead n ⌝ }
+{
+    if LONGEST_BODY < n {
+        return 0;
+    }
+    3 + n
+}
+
+// How many bytes a file's field with this tag has, where a length that depends is `size`; none, where the file has no such field.
+pub fn field_length(file: File, tag: u8, size: usize) -> usize
+    ensures { λ r. ⌜ r ≡ fieldLength file tag size ⌝ }
+{
+    match length_of(file, tag) {
+        BodyLength::Unknown => 0,
+        BodyLength::Fixed(n) => with_head(n),
+        BodyLength::Depends => with_head(size),
+    }
+}
 
 // The head at the front of the lent part: the high byte of the length comes first.
 fn put_head(tag: u8, n: usize, buf: &mut [u8])

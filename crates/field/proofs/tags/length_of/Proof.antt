@@ -3,6 +3,7 @@ use Prim.Native.Nat.{_-_, _≤_}
 use mathlib.Core.Path.{_≡_, refl, sym, _∙_}
 use native.Mathlib.Omega.{arith}
 use borrow.Author.Needs.{needs}
+use borrow.Author.Tests.{eq-eqb, ne-eqb}
 use lib.ListN.{drop, length}
 use Rattle.field.specs.Tags.{fieldTable, lengthIn, lengthOf}
 use Rattle.field.proofs.TagLaws.{hit, miss, none}
@@ -17,15 +18,15 @@ abbrev μ-loop : tie.MeasureT-loop
 
 returns : tie.Need-returns Inv-loop μ-loop
 returns c =
-    let l = c .before .before .before .before in
+    let l = c .before .before .before .before .before in
     let a = l .before .args in
-    sym (l .loop .inv .1 ∙ hit (a .file) (a .tag) fieldTable (l .loop .i) _ (c .before .before .before .loop-test .taken) (sym (c .before .is-entry .ensures) ∙ c .if1 .taken))
+    c .known-of .ensures ∙ sym (l .loop .inv .1 ∙ hit (a .file) (a .tag) fieldTable (l .loop .i) _ (c .before .before .before .before .loop-test .taken) (eq-eqb _ _ (c .before .if1 .taken)))
 
 loop-again : tie.Need-loop-again Inv-loop μ-loop
 loop-again c =
     let l = c .before .before .before .before in
     let a = l .before .args in
-    (omega arith, l .loop .inv .1 ∙ miss (a .file) (a .tag) fieldTable (l .loop .i) _ (c .before .before .before .loop-test .taken) (sym (c .before .is-entry .ensures) ∙ c .if1 .left))
+    (omega arith, l .loop .inv .1 ∙ miss (a .file) (a .tag) fieldTable (l .loop .i) _ (c .before .before .before .loop-test .taken) (ne-eqb _ _ (c .if1 .left)))
 
 returns-2 : tie.Need-returns-2 Inv-loop μ-loop
 returns-2 c =
