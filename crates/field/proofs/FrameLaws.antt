@@ -127,3 +127,23 @@ module _ (file : File) (due size : ℕ) (rest : List ℕ) (tag n : ℕ) (e : fra
 -- a field that was written has a sound frame where it is due
 pub due-sound : (file : File) (tag size : ℕ) (body rest : List ℕ) → Sized file tag size (length body) → frameOf file (Only tag) size (fieldBytes tag body ++ rest) ≡ Sound tag (length body)
 due-sound file tag size body rest s = written-sound file (Only tag) size tag body rest s (eq-eqb tag tag refl)
+
+-- the numbers with which a frame is refused
+pub frame-number : (file : File) (due : Due) (size : ℕ) (rest : List ℕ) (number : ℕ) → frameOf file due size rest ≡ Refused number → (1 ≤ number) × (number ≤ 4)
+unfolding frameOf framed
+frame-number file due size rest number e = go (headOf rest) e
+  where
+    is : (n : ℕ) → (1 ≤ n) × (n ≤ 4) → Refused n ≡ Refused number → (1 ≤ number) × (number ≤ 4)
+    is n h e = let same : n ≡ number = cc in subst (λ k. (1 ≤ k) × (k ≤ 4)) same h
+
+    left : (tag n : ℕ) (a b c d : Bool) →
+        cond a (Refused tagUnknown) (cond b (Refused tagOutOfPlace) (cond c (Refused wrongLength) (cond d (Refused dataEnds) (Sound tag n)))) ≡ Refused number → (1 ≤ number) × (number ≤ 4)
+    left tag n true b c d e = is tagUnknown (omega arith, omega arith) e
+    left tag n false true c d e = is tagOutOfPlace (omega arith, omega arith) e
+    left tag n false false true d e = is wrongLength (omega arith, omega arith) e
+    left tag n false false false true e = is dataEnds (omega arith, omega arith) e
+    left tag n false false false false e = never cc
+
+    go : (h : Head) → headFramed file due size (length rest - 3) h ≡ Refused number → (1 ≤ number) × (number ≤ 4)
+    go Short e = is dataEnds (omega arith, omega arith) e
+    go (Whole tag n) e = left tag n (not (isKnown (lengthOf file tag))) (not (inPlace due tag)) (not (isAllowed (lengthOf file tag) size n)) (ltb (length rest - 3) n) e

@@ -12,7 +12,7 @@ use Rattle.outcome.specs.declared.checks.Check.{Check}
 use Rattle.outcome.specs.declared.checks.Check.the-variants.{Accepted, Refused}
 use Rattle.outcome.specs.declared.writes.Written.the-variants.{Count, Refused as NotWritten}
 use Rattle.outcome.specs.Refusals.{refusal, bufferTooShort}
-use Rattle.outcome.specs.Writes.{over, fitted, fittedOver, checkedThen}
+use Rattle.outcome.specs.Writes.{over, fitted, fittedOver, checkedThen, checkedOver}
 use Rattle.outcome.proofs.Never.{never}
 
 module _ (written old : List ℕ) where
@@ -41,3 +41,12 @@ module _ (check : Check) (written : List ℕ) (room : ℕ) where
       go Accepted true p q e = inr (p, ltb-true room (length written) q, cc)
       go Accepted false p q e = never cc
       go (Refused s) b p q e = let same : s ≡ r = cc in inl (rw (← same) p)
+
+-- a refused call leaves the buffer as it was
+pub refused-keeps : (check : Check) (written old : List ℕ) (r : Refusal) → checkedThen check (fitted written (length old)) ≡ NotWritten r → checkedOver check (fittedOver written old) old ≡ old
+refused-keeps check written old r e = go check (ltb (length old) (length written)) e
+  where
+    go : (c : Check) (b : Bool) → checkedThen c (cond b (NotWritten (refusal bufferTooShort 0)) (Count (length written))) ≡ NotWritten r → checkedOver c (cond b old (over written old)) old ≡ old
+    go Accepted true e = refl
+    go Accepted false e = never cc
+    go (Refused s) b e = refl

@@ -1,18 +1,15 @@
 -- Laws that belong to no one function, in the order in which they rest on each other.
 -- The tables, and one field:
 pub mod BodyLaws
-pub mod FrameLaws
+pub mod SaidLaws
 pub mod StepLaws
-pub mod WrittenFieldLaws
-pub mod TakenFieldLaws
 -- The reader and the writer:
-pub mod AsReadLaws
 pub mod ReadLaws
+pub mod KeptLaws
 pub mod StatementBytesLaws
 pub mod WriterLaws
 -- Both round trips:
 pub mod ReadBackLaws
-pub mod FieldLaws
 pub mod AcceptedFileLaws
 pub mod RoundTrips
 pub mod RefusalLaws

@@ -9,7 +9,7 @@ use lib.Seq.{take-append-seam}
 use Rattle.question.specs.declared.questions.Question.{Question}
 use Rattle.outcome.specs.declared.checks.Check.the-variants.{Accepted}
 use Rattle.question.specs.Limits.{maxStatements}
-use Rattle.question.specs.Questions.{statements}
+use Rattle.question.specs.Questions.{questionOf, statements}
 use Rattle.question.specs.Checks.{checked}
 use Rattle.question.proofs.StatementsLaws.{statements-length}
 use Rattle.question.proofs.AcceptedLaws.{accepted}
@@ -18,9 +18,10 @@ use Rattle.outcome.specs.Calls.{Call}
 use Rattle.question_file.specs.declared.reads.ReadQuestion.{ReadQuestion}
 use Rattle.outcome.specs.declared.writes.Written.the-variants.{Count}
 use Rattle.question_file.specs.Bytes.{fileBytes, questionBytes}
-use Rattle.question_file.specs.Reads.{readQuestion, asRead}
+use Rattle.question_file.specs.Reads.{readQuestion}
 use Rattle.question_file.specs.Writes.{written, writtenOver}
-use Rattle.question_file.proofs.AsReadLaws.{as-read-statements, as-read-again, checked-sound, sound-checked}
+use Rattle.question.proofs.BuildLaws.{statements-of, of-again}
+use Rattle.question.proofs.SoundLaws.{checked-sound, sound-checked}
 use Rattle.question_file.proofs.ReadBackLaws.{file-read-back}
 use Rattle.question_file.proofs.AcceptedFileLaws.{accepted-file}
 use Rattle.question_file.proofs.WriterLaws.{Writable, writable-written, written-writable, written-over}
@@ -29,7 +30,7 @@ use Rattle.question_file.proofs.writes.write_question.Reads as write
 
 -- what the reader gives back of a question: the same names and statements, and "0 = 0" past the count
 abbrev pub back : Question → ReadQuestion
-back q = record { outcome = Accepted; question = asRead (q .elements) (q .sets) (statements q) }
+back q = record { outcome = Accepted; question = questionOf (q .elements) (q .sets) (statements q) }
 
 -- an accepted question, written and read back
 pub read-back : (q : Question) → checked q ≡ Accepted → readQuestion (questionBytes q) ≡ back q
@@ -49,7 +50,7 @@ same-back q e long =
       elements = refl;
       sets = refl;
       count = statements-length q ∙ omega (arith, accepted q .0 e .few-statements);
-      stated = as-read-statements (q .elements) (q .sets) (statements q) (checked-sound q e .few-statements);
+      stated = statements-of (q .elements) (q .sets) (statements q) (checked-sound q e .few-statements);
     })
 
 -- an accepted file: its question is an accepted table,
@@ -62,13 +63,13 @@ module _ (bytes : List ℕ) (e : readQuestion bytes .outcome ≡ Accepted) where
   read-made =
       let f = accepted-file bytes e in
       ap (λ o. record { outcome = o; question = readQuestion bytes .question }) e
-      ∙ ap (λ q. record { outcome = Accepted; question = q }) (as-read-again (f .E) (f .S) (f .ss) (f .sound .few-statements) (readQuestion bytes .question) (f .made))
+      ∙ ap (λ q. record { outcome = Accepted; question = q }) (of-again (f .E) (f .S) (f .ss) (f .sound .few-statements) (readQuestion bytes .question) (f .made))
 
   -- and written again it has the same bytes
   pub written-again : questionBytes (readQuestion bytes .question) ≡ bytes
   written-again =
       let f = accepted-file bytes e in
-      ap questionBytes (f .made) ∙ ap (fileBytes (f .E) (f .S)) (as-read-statements (f .E) (f .S) (f .ss) (f .sound .few-statements)) ∙ sym (f .written)
+      ap questionBytes (f .made) ∙ ap (fileBytes (f .E) (f .S)) (statements-of (f .E) (f .S) (f .ss) (f .sound .few-statements)) ∙ sym (f .written)
 
 -- the same, of buffers: what is written of n bytes is read back,
 back-from-buffer : (q : Question) (n : ℕ) (old new bytes : List ℕ) → written q (length old) ≡ Count n → new ≡ writtenOver q old → bytes ≡ take n new → readQuestion bytes ≡ back q

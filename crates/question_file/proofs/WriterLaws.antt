@@ -12,24 +12,19 @@ use Rattle.question.specs.declared.statements.Statement.{Statement}
 use Rattle.question.specs.declared.questions.Question.{Question}
 use Rattle.outcome.specs.declared.refusals.Refusal.{Refusal}
 use Rattle.outcome.specs.declared.checks.Check.{Check}
-use Rattle.outcome.specs.declared.checks.Check.the-variants.{Accepted, Refused as RefusedTable}
+use Rattle.outcome.specs.declared.checks.Check.the-variants.{Accepted, Refused}
 use Rattle.outcome.specs.Refusals.{refusal, bufferTooShort}
 use Rattle.question.specs.Questions.{statements}
-use Rattle.outcome.specs.Writes.{checkedOver, over, checkedThen}
+use Rattle.outcome.specs.Writes.{over, checkedThen}
 use Rattle.question.specs.Checks.{checked}
-use Rattle.outcome.proofs.Never.{never}
-use Rattle.outcome.specs.declared.writes.Written.the-variants.{Count, Refused}
+use Rattle.outcome.specs.declared.writes.Written.the-variants.{Count, Refused as NotWritten}
 use Rattle.question_file.specs.Bytes.{statementBytes, statementsBytes, questionBytes}
 use Rattle.question_file.specs.Writes.{written, writtenOver}
 use Rattle.question_file.proofs.BodyLaws.{field}
 use Rattle.question_file.proofs.StatementBytesLaws.{question-length}
-use Rattle.question_file.proofs.AsReadLaws.{checked-sound}
-
-refused-bytes : {A : Type 0} {r : Refusal} {n : ℕ} → Refused r ≡ Count n → A
-refused-bytes e = never cc
-
-bytes-same : {m n : ℕ} → Count m ≡ Count n → m ≡ n
-bytes-same e = cc
+use Rattle.outcome.proofs.CheckLaws.{refused-written}
+use Rattle.outcome.proofs.WriteLaws.{counted, refused-keeps}
+use Rattle.question.proofs.SoundLaws.{checked-sound}
 
 module _ (q : Question) (room : ℕ) where
   -- may the question be written: its table is accepted, and there is room for its file
@@ -42,25 +37,20 @@ module _ (q : Question) (room : ℕ) where
 
   pub written-writable : (n : ℕ) → written q room ≡ Count n → Writable × (n ≡ length (questionBytes q))
   unfolding written
-  written-writable n e = go (checked q) (ltb room (length (questionBytes q))) refl refl e
-    where
-      go : (c : Check) (b : Bool) → checked q ≡ c → ltb room (length (questionBytes q)) ≡ b → checkedThen c (cond b (Refused (refusal bufferTooShort 0)) (Count (length (questionBytes q)))) ≡ Count n → Writable × (n ≡ length (questionBytes q))
-      go (RefusedTable r) b p h e = refused-bytes e
-      go Accepted true p h e = refused-bytes e
-      go Accepted false p h e = ((p, ltb-false room _ h), sym (bytes-same e))
+  written-writable n e = let c = counted (checked q) (questionBytes q) room n e in ((c .0, c .2), c .1)
 
   -- the writer writes exactly where it may
   pub writes : (written q room ≡ Count (length (questionBytes q))) ↔ Writable
   writes = ((λ e. written-writable (length (questionBytes q)) e .0), writable-written)
 
   -- and refuses exactly where it may not
-  pub refuses : ((r : Refusal) × (written q room ≡ Refused r)) ↔ (Writable → ⊥)
+  pub refuses : ((r : Refusal) × (written q room ≡ NotWritten r)) ↔ (Writable → ⊥)
   unfolding written
-  refuses = ((λ r w. refused-bytes (sym (r .1) ∙ writable-written w)), λ not. go (checked q) (ltb room (length (questionBytes q))) refl refl not)
+  refuses = ((λ r w. refused-written (sym (r .1) ∙ writable-written w)), λ not. go (checked q) (ltb room (length (questionBytes q))) refl refl not)
     where
       go : (c : Check) (b : Bool) → checked q ≡ c → ltb room (length (questionBytes q)) ≡ b → (Writable → ⊥) →
-          (r : Refusal) × (checkedThen c (cond b (Refused (refusal bufferTooShort 0)) (Count (length (questionBytes q)))) ≡ Refused r)
-      go (RefusedTable r) b p h not = (r, refl)
+          (r : Refusal) × (checkedThen c (cond b (NotWritten (refusal bufferTooShort 0)) (Count (length (questionBytes q)))) ≡ NotWritten r)
+      go (Refused r) b p h not = (r, refl)
       go Accepted true p h not = (refusal bufferTooShort 0, refl)
       go Accepted false p h not = absurd (not (p, ltb-false room _ h))
 
@@ -71,14 +61,9 @@ module _ (q : Question) (old : List ℕ) where
   written-over w = rw (w .0, le-ltb (length old) (length (questionBytes q)) (w .1))
 
   -- and after one that refuses
-  pub refused-over : (r : Refusal) → written q (length old) ≡ Refused r → writtenOver q old ≡ old
+  pub refused-over : (r : Refusal) → written q (length old) ≡ NotWritten r → writtenOver q old ≡ old
   unfolding written writtenOver
-  refused-over r e = go (checked q) (ltb (length old) (length (questionBytes q))) e
-    where
-      go : (c : Check) (b : Bool) → checkedThen c (cond b (Refused (refusal bufferTooShort 0)) (Count (length (questionBytes q)))) ≡ Refused r → checkedOver c (cond b old (over (questionBytes q) old)) old ≡ old
-      go (RefusedTable r) b e = refl
-      go Accepted true e = refl
-      go Accepted false e = refused-bytes (sym e)
+  refused-over r e = refused-keeps (checked q) (questionBytes q) old r e
 
 -- a statement's field has six bytes at the most
 statements-short : (ss : List Statement) → length (statementsBytes ss) ≤ 6 * length ss

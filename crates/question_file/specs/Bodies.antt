@@ -1,9 +1,8 @@
 -- A statement and the body of its field, one byte a name, after the table of statements of document 01.
-use Prim.Native.Nat.{ℕ, _-_}
+use Prim.Native.Nat.{ℕ}
 use mathlib.Core.Bool.{cond}
-use mathlib.Core.List.{List, map, _++_}
+use mathlib.Core.List.{List, map}
 use lib.Dec.{eqb}
-use lib.ListN.{length, replicate}
 use Rattle.question.specs.declared.names.ElementName.{ElementName}
 use Rattle.question.specs.declared.names.SetName.{SetName}
 use Rattle.question.specs.declared.statements.Statement.{Statement}
@@ -27,9 +26,9 @@ nameByte (set x) = x .0
 abbrev pub bodyOf : Statement → List ℕ
 bodyOf s = map nameByte (namesOf s)
 
--- a body as three bytes, with 0 behind its last
-abbrev pub padded : List ℕ → List ℕ
-padded body = body ++ replicate (3 - length body) 0
+-- the longest body has three names
+abbrev pub longestBody : ℕ
+longestBody = 3
 
 -- the statement of a tag whose body begins with the bytes a, b, c
 unfoldable pub statementOf : ℕ → ℕ → ℕ → ℕ → Made

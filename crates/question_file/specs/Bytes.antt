@@ -5,7 +5,7 @@ use Rattle.question.specs.declared.statements.Statement.{Statement}
 use Rattle.question.specs.declared.questions.Question.{Question}
 use Rattle.question.specs.Statements.{tagOf}
 use Rattle.question.specs.Questions.{statements}
-use Rattle.field.specs.Heads.{fieldBytes}
+use Rattle.field.specs.Heads.{fieldBytes, endBytes}
 use Rattle.question_file.specs.Bodies.{bodyOf}
 
 -- field 01
@@ -20,10 +20,6 @@ statementBytes s = fieldBytes (tagOf s) (bodyOf s)
 unfoldable pub statementsBytes : List Statement → List ℕ
 statementsBytes [] = []
 statementsBytes (s ∷ ss) = statementBytes s ++ statementsBytes ss
-
--- field 7F
-abbrev pub endBytes : List ℕ
-endBytes = fieldBytes 0x7f []
 
 -- the file of E, S and some statements
 unfoldable pub fileBytes : ℕ → ℕ → List Statement → List ℕ

@@ -1,40 +1,67 @@
--- What a field says by itself: put to the question so far it is one step of the reader.
-use Prim.Native.Nat.{ℕ}
-use mathlib.Core.Path.{_≡_}
+-- What a field of a question file says by itself, and what it leads to where the fields before it made a question.
+use Prim.Native.Nat.{ℕ, _+_}
+use mathlib.Core.Bool.{cond}
 use mathlib.Core.List.{List}
-use Rattle.question.specs.declared.statements.Statement.{Statement}
+use lib.Dec.{eqb}
+use lib.ListN.{getD, drop}
+use Rattle.outcome.specs.declared.refusals.Refusal.{Refusal}
+use Rattle.outcome.specs.Refusals.{refusal, tagUnknown}
+use Rattle.outcome.specs.Checks.{acceptedThen}
+use Rattle.field.specs.declared.tags.File.the-variants.{Question as QuestionFile}
+use Rattle.field.specs.declared.frames.Due.{Due}
+use Rattle.field.specs.declared.frames.Due.the-variants.{Only, AllBut}
+use Rattle.field.specs.declared.frames.Frame.{Frame}
+use Rattle.field.specs.declared.frames.Frame.the-variants.{Sound, Refused as BadFrame}
+use Rattle.field.specs.Frames.{frameOf}
 use Rattle.question.specs.declared.questions.Question.{Question}
 use Rattle.question.specs.Questions.{termsOf}
+use Rattle.question.specs.Admissions.{addition, admittedAt}
+use Rattle.question.specs.Checks.{namesCheckedAt}
+use Rattle.question.specs.Builds.{declaring, added}
+use Rattle.question_file.specs.declared.bodies.Made.{Made}
+use Rattle.question_file.specs.declared.bodies.Made.the-variants.{Stated as StatementMade, NotStated}
 use Rattle.question_file.specs.declared.fields.Said.{Said}
 use Rattle.question_file.specs.declared.fields.Said.the-variants.{Names, Stated, Ended, Refused}
-use Rattle.question_file.specs.declared.steps.Next.the-variants.{End}
-use Rattle.question_file.specs.declared.steps.Step.{Step}
-use Rattle.question_file.specs.Steps.{declaring, refusedAt, more, added, namesStep, statementStep, taken, fieldStep}
+use Rattle.question_file.specs.Bodies.{statementOf}
 
--- what the field at a place says, put to the question so far
-abbrev pub stepOf : Said → ℕ → Question → Step
-stepOf (Names E S next) at q = more next (declaring E S)
-stepOf (Stated s next) at q = more next (added q s)
-stepOf (Ended next) at q = record { next = End next; question = q }
-stepOf (Refused number) at q = refusedAt number at
+-- 01 stands first, and nowhere else
+abbrev pub dueAt : ℕ → Due
+dueAt at = cond (eqb at 0) (Only 0x01) (AllBut 0x01)
 
--- all that a field has to know of the question so far: E and S, and how many statements and terms it has
-pub record Has (q : Question) (E S count total : ℕ) : Type 0 where
-  pub elements : q .elements ≡ E
-  pub sets : q .sets ≡ S
-  pub stated : q .count ≡ count
-  pub terms : termsOf q ≡ total
+-- a statement, if the tag is one's
+abbrev pub madeSaid : Made → ℕ → Said
+madeSaid (StatementMade s) next = Stated s next
+madeSaid NotStated next = Refused tagUnknown
 
--- whatever the rest of the question is, this is said by the names E and S, by the statement s,
-abbrev pub SaysNames : Said → ℕ → ℕ → ℕ → Type 0
-SaysNames r E S next = (at : ℕ) (q : Question) → stepOf r at q ≡ namesStep E S at next
+-- a tag and the bytes of its body; the next field begins at `next`
+unfoldable pub saidBy : ℕ → List ℕ → ℕ → Said
+saidBy tag body next =
+    cond (eqb tag 0x01) (Names (getD body 0 0) (getD body 1 0) next)
+    (cond (eqb tag 0x7f) (Ended next)
+    (madeSaid (statementOf tag (getD body 0 0) (getD body 1 0) (getD body 2 0)) next))
 
-abbrev pub SaysStatement : Said → Statement → ℕ → ℕ → ℕ → ℕ → ℕ → Type 0
-SaysStatement r s next E S count total = (at : ℕ) (q : Question) → Has q E S count total → stepOf r at q ≡ statementStep s at next q
+-- first the refusals of the frame
+abbrev pub framedSaid : Frame → List ℕ → ℕ → Said
+framedSaid (BadFrame number) rest at = Refused number
+framedSaid (Sound tag n) rest at = saidBy tag (drop 3 rest) (at + (3 + n))
 
--- by a field with a sound frame, and by any field
-abbrev pub SaysTaken : Said → ℕ → List ℕ → ℕ → ℕ → ℕ → ℕ → ℕ → ℕ → Type 0
-SaysTaken r tag body at next E S count total = (q : Question) → Has q E S count total → stepOf r at q ≡ taken tag body at next q
+-- what the field at the place `at` says, where `rest` are the bytes from there on
+unfoldable pub said : ℕ → List ℕ → Said
+said at rest = framedSaid (frameOf QuestionFile (dueAt at) 0 rest) rest at
 
-abbrev pub SaysField : Said → List ℕ → ℕ → ℕ → ℕ → ℕ → ℕ → Type 0
-SaysField r rest at E S count total = (q : Question) → Has q E S count total → stepOf r at q ≡ fieldStep rest at q
+-- what a field leads to: the next field's place and the question so far, the place behind the end, or a refusal
+pub data Next : Type 0 where
+  More : ℕ → Question → Next
+  End : ℕ → Next
+  Stop : Refusal → Next
+
+-- what is said, put to the question so far: 5 for names, 7, 6, 8 for a statement, at the field's first byte
+abbrev pub put : ℕ → Question → Said → Next
+put at q (Names E S next) = acceptedThen (namesCheckedAt at E S) Stop (More next (declaring E S))
+put at q (Stated s next) = acceptedThen (admittedAt at (addition (q .elements) (q .sets) (q .count) (termsOf q) s)) Stop (More next (added q s))
+put at q (Ended next) = End next
+put at q (Refused number) = Stop (refusal number at)
+
+-- one field at the place `at`, where `rest` are the bytes from there on and q is the question so far
+unfoldable pub fieldStep : List ℕ → ℕ → Question → Next
+fieldStep rest at q = put at q (said at rest)

@@ -1,8 +1,6 @@
 -- The definitions that the contracts cite, in the order of the data's way.
 pub mod Bodies
 pub mod Bytes
-pub mod Frames
-pub mod Steps
 pub mod Fields
 pub mod Reads
 pub mod Writes

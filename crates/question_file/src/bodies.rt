@@ -7,7 +7,8 @@ use question::SetName;
 use question::Statement;
 ghost use mathlib.Core.Path.{_≡_};
 ghost use lib.ListN.{length};
-ghost use Rattle.question_file.specs.Bodies.{bodyOf, padded, statementOf};
+ghost use Rattle.question_file.specs.Bodies.{bodyOf, longestBody, statementOf};
+ghost use Rattle.outcome.specs.Padded.{padded};
 
 pub enum Made {
     Stated(Statement),
@@ -37,7 +38,7 @@ pub(crate) fn statement_of(tag: u8, a: u8, b: u8, c: u8) -> Made
 
 // The names of a statement in the order of its body, with 0 behind the last.
 pub(crate) fn name_bytes(s: Statement) -> [u8; 3]
-    ensures { λ r. ⌜ r ≡ padded (bodyOf s) ⌝ }
+    ensures { λ r. ⌜ r ≡ padded longestBody (bodyOf s) ⌝ }
 {
     match s {
         Statement::ElementsEqual(a, b) => [a.0, b.0, 0],

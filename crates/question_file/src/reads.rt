@@ -1,14 +1,15 @@
 // The reader of question files: bytes to a question, or a refusal with its number and place.
 use crate::fields::Said;
 use crate::fields::field_at;
-use crate::steps::declare;
 use outcome::Check;
 use outcome::Refusal;
 use question::Question;
 use question::Record;
+use question::check_names;
+use question::declare;
+use question::may_add;
 use question::witness_of;
 ghost use mathlib.Core.Path.{_≡_};
-ghost use Rattle.outcome.specs.Refusals.{refusal};
 ghost use Rattle.question_file.specs.Reads.{refusedFile, readQuestion};
 
 // Whether the file is accepted, and its question; where it is refused the question is empty.
@@ -17,13 +18,9 @@ pub struct ReadQuestion {
     pub question: Question,
 }
 
-fn refuse_file(number: u8, place: usize) -> ReadQuestion
-    ensures { λ r. ⌜ r ≡ refusedFile (refusal number place) ⌝ }
+fn refuse_file(refusal: Refusal) -> ReadQuestion
+    ensures { λ r. ⌜ r ≡ refusedFile refusal ⌝ }
 {
-    let refusal = Refusal {
-        number: number,
-        place: place,
-    };
     let question = Question::empty();
     ReadQuestion {
         outcome: Check::Refused(refusal),
@@ -32,6 +29,7 @@ fn refuse_file(number: u8, place: usize) -> ReadQuestion
 }
 
 // The question of a file, field by field from its first byte on; after 7F, 9 at the first extra byte.
+// The question is built in place: to hand it on with each field would cost more than all the rest of reading.
 pub fn read_question(bytes: &[u8]) -> ReadQuestion
     ensures { λ r. ⌜ r ≡ readQuestion (now (bytes .entry)) ⌝ }
 {
@@ -39,14 +37,21 @@ pub fn read_question(bytes: &[u8]) -> ReadQuestion
     let mut total: usize = 0;
     let mut q = Question::empty();
     loop {
-        let count = q.count;
-        match field_at(bytes, at, q.elements, q.sets, count, total) {
+        match field_at(bytes, at) {
             Said::Names(elements, sets, next) => {
+                if let Check::Refused(refusal) = check_names(elements, sets, at) {
+                    return refuse_file(refusal);
+                }
                 q = declare(elements, sets);
                 total = elements as usize;
                 at = next;
             }
             Said::Stated(s, next) => {
+                let count = q.count;
+                let admission = may_add(s, q.elements, q.sets, count, total);
+                if let Check::Refused(refusal) = admission.at(at) {
+                    return refuse_file(refusal);
+                }
                 total += witness_of(s);
                 q.table[count] = Record { statement: s };
                 q.count = count + 1;
@@ -54,7 +59,7 @@ pub fn read_question(bytes: &[u8]) -> ReadQuestion
             }
             Said::Ended(place) => {
                 if place < bytes.len() {
-                    return refuse_file(Refusal::BYTES_AFTER_END, place);
+                    return refuse_file(Refusal::new(Refusal::BYTES_AFTER_END, place));
                 }
                 return ReadQuestion {
                     outcome: Check::Accepted,
@@ -62,7 +67,7 @@ pub fn read_question(bytes: &[u8]) -> ReadQuestion
                 };
             }
             Said::Refused(number) => {
-                return refuse_file(number, at);
+                return refuse_file(Refusal::new(number, at));
             }
         }
     }

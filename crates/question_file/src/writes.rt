@@ -1,6 +1,8 @@
 // The writer of question files: a question table into a lent buffer, field by field.
 use crate::bodies::body_length;
 use crate::bodies::name_bytes;
+use field::File;
+use field::field_length;
 use field::put_field;
 use outcome::Check;
 use outcome::Refusal;
@@ -25,12 +27,12 @@ fn file_length(q: Question) -> usize
     ensures { λ r. ⌜ r ≡ length (questionBytes q) ⌝ }
 {
     let count = q.count;
-    let mut total: usize = 8;
+    let mut total = field_length(File::Question, 0x01, 0) + field_length(File::Question, 0x7f, 0);
     let mut i: usize = 0;
     while i < count {
         let entry = q.table[i];
         let s = entry.statement;
-        total += 3 + body_length(s);
+        total += field_length(File::Question, s.tag(), 0);
         i += 1;
     }
     total

@@ -1,31 +1,39 @@
--- `field_at` takes a field whose frame is sound, and passes on the refusal of any other.
+-- `field_at` says what a field with a sound frame says, and passes on the refusal of any other.
 use denote.Ref.{now}
-use mathlib.Core.Path.{refl, sym, _∙_}
-use native.Mathlib.Omega.{arith}
+use mathlib.Core.Path.{_≡_, sym, ap, _∙_}
 use borrow.Author.Needs.{needs}
-use lib.ListN.{drop, length-drop}
-use Rattle.question_file.proofs.FrameLaws.{sound}
-use Rattle.question_file.proofs.StepLaws.{bad-frame, sound-frame}
+use lib.ListN.{drop}
+use Rattle.field.specs.declared.tags.File.the-variants.{Question as QuestionFile}
+use Rattle.field.specs.declared.frames.Frame.{Frame}
+use Rattle.field.specs.Frames.{frameOf}
+use Rattle.field.proofs.FrameLaws.{within}
+use Rattle.question_file.specs.Fields.{dueAt, framedSaid, said}
 use Rattle.question_file.proofs.fields.field_at.Statement.{statement}
 use Rattle.question_file.proofs.fields.field_at.Tie as tie
 
-take-field-requires : tie.Need-take-field-requires
-take-field-requires c κs =
-    let a = c .before .before .before .before .before .args in
-    let frame = sym (c .before .before .before .frame-at .ensures) ∙ c .before .tag .given .1 in
-    omega (arith, simp length-drop at (sound (a .at) (drop (a .at) (now (a .bytes))) _ _ frame .there))
+-- what the frame came to
+framed : (c : tie.After-frame-at) (x : Frame) → c .frame-at .result ≡ x → let a = c .before .before .before .args in frameOf QuestionFile (dueAt (a .at)) 0 (drop (a .at) (now (a .bytes))) ≡ x
+framed c x e = let a = c .before .before .before .args in ap (λ d. frameOf QuestionFile d 0 (drop (a .at) (now (a .bytes)))) (sym (c .before .due-at .ensures)) ∙ sym (c .frame-at .ensures) ∙ e
+
+say-requires : tie.Need-say-requires
+say-requires c κs =
+    let f = c .before .before .before in
+    let a = f .before .before .before .args in
+    within QuestionFile (dueAt (a .at)) 0 (now (a .bytes)) (a .at) _ _ (framed f _ (c .before .tag .given .1))
 
 returns : tie.Need-returns
-returns c q k =
+unfolding said
+returns c =
     let f = c .before .before .before in
-    let a = f .before .before .args in
-    bad-frame (drop (a .at) (now (a .bytes))) (a .at) q _ _ (sym (f .frame-at .ensures) ∙ c .before .number .given .1) refl
+    let a = f .before .before .before .args in
+    sym (ap (λ x. framedSaid x (drop (a .at) (now (a .bytes))) (a .at)) (framed f _ (c .before .number .given .1)))
 
 returns-2 : tie.Need-returns-2
-returns-2 c q k =
+unfolding said
+returns-2 c =
     let f = c .before .before .before .before in
-    let a = f .before .before .args in
-    sound-frame (drop (a .at) (now (a .bytes))) (a .at) q _ _ _ (sym (f .frame-at .ensures) ∙ c .before .before .tag .given .1) (c .take-field .ensures q k)
+    let a = f .before .before .before .args in
+    c .say .ensures ∙ sym (ap (λ x. framedSaid x (drop (a .at) (now (a .bytes))) (a .at)) (framed f _ (c .before .before .tag .given .1)))
 
 pub field-at-spec : {M : Type 1} → statement M
-field-at-spec = tie.close (tie.spec (λ c κs. search needs) (λ c. search needs) (λ c. search needs) take-field-requires returns returns-2)
+field-at-spec = tie.close (tie.spec (λ c κs. search needs) (λ c κs. search needs) (λ c. search needs) (λ c. search needs) say-requires returns returns-2)

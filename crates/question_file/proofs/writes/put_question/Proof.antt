@@ -10,7 +10,8 @@ use lib.ListN.{length, take, drop, length-append, length-take, length-drop}
 use Rattle.question.specs.Questions.{statements}
 use Rattle.outcome.proofs.OverLaws.{Run, run-first, run-room, run-on, run-end}
 use Rattle.field.proofs.WriteLaws.{written}
-use Rattle.question_file.specs.Bytes.{namesBytes, statementsBytes, endBytes, fileBytes, questionBytes}
+use Rattle.question_file.specs.Bytes.{namesBytes, statementsBytes, fileBytes, questionBytes}
+use Rattle.field.specs.Heads.{endBytes}
 use Rattle.question_file.proofs.writes.put_question.Statement.{statement}
 use Rattle.question_file.proofs.writes.put_question.Tie as tie
 
