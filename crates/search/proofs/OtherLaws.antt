@@ -14,7 +14,7 @@ use Rattle.question.proofs.TestLaws.{T-true, true-T}
 use Rattle.theory.specs.Rules.{Row}
 use Rattle.theory.specs.Sets.{Test}
 use Rattle.theory.specs.Solutions.{allRows}
-use Rattle.theory.proofs.RuleLaws.{all-append}
+use Rattle.theory.proofs.ListLaws.{all-append}
 use Rattle.mask.specs.Entries.{testIn, termsIn, rowsOfEntry, rowsOfEntries}
 use Rattle.mask.proofs.BitLaws.{or-left, or-right}
 use Rattle.mask.proofs.EntryLaws.{entry-pass}

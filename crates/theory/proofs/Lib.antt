@@ -2,6 +2,7 @@
 -- DemandThree, AnswerLaws, RowListLaws and Cases say what the definitions are for; the others lead there or serve the code of other crates.
 pub mod CountLaws
 pub mod DigitLaws
+pub mod ListLaws
 pub mod ArrangementLaws
 pub mod SearchLaws
 pub mod LoopLaws

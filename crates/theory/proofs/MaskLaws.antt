@@ -10,6 +10,7 @@ use borrow.Author.Tests.{eqb-true, eq-eqb}
 use lib.Dec.{T}
 use lib.ListN.{length}
 use lib.Seq.{ext-getD}
+use Rattle.theory.specs.Lists.{Every}
 use Rattle.theory.specs.Arrangements.{IsArrangement, classes, classOf, inClass}
 use Rattle.theory.specs.Searches.{firstFrom, eachFrom}
 use Rattle.theory.specs.Rules.{Row}
@@ -18,7 +19,8 @@ use Rattle.theory.specs.FirstModels.{serves, servesAll, smallestMask, mo
 use Rattle.question.proofs.TestLaws.{true-T}
 use Rattle.theory.proofs.ArrangementLaws.{class-below}
 use Rattle.theory.proofs.SearchLaws.{FirstNumberIs, firstFrom-is, EachIs, eachFrom-is}
-use Rattle.theory.proofs.RuleLaws.{EveryRow, TermsBelow, all-every, every-all, all-map}
+use Rattle.theory.proofs.ListLaws.{all-every, every-all, all-map}
+use Rattle.theory.proofs.RuleLaws.{TermsBelow}
 
 module _ {Test : Type 0} (fits : ℕ → (ℕ → Bool) → Test → Bool) where
   module _ (l ms : List ℕ) where
@@ -37,9 +39,9 @@ module _ {Test : Type 0} (fits : ℕ → (ℕ → Bool) → Test → Bool) where
     serves-row r h = subst (λ b. T (not b || met fits l ms r)) (eq-eqb (classOf l (r .term)) (classOf l (r .term)) refl) h
 
     abbrev Served : List (Row Test) → Type 0
-    Served rows = (k : ℕ) → k < classes l → EveryRow (λ r. T (serves fits l k (maskOf ms k) r)) rows
+    Served rows = (k : ℕ) → k < classes l → Every (λ r. T (serves fits l k (maskOf ms k) r)) rows
 
-    serves-rows : (rows : List (Row Test)) → TermsBelow (length l) rows → Served rows → EveryRow (λ r. T (met fits l ms r)) rows
+    serves-rows : (rows : List (Row Test)) → TermsBelow (length l) rows → Served rows → Every (λ r. T (met fits l ms r)) rows
     serves-rows [] below h = tt
     serves-rows (r ∷ rs) below h = (serves-row r (h (classOf l (r .term)) (class-below 0 l (r .term) (below .0)) .0), serves-rows rs (below .1) (λ k lt. h k lt .1))
 

@@ -9,12 +9,14 @@ use Rattle.question.specs.Limits.{maxRows, maxTerms}
 use Rattle.question.specs.Questions.{statements, termsOf}
 use Rattle.question.specs.Checks.{IsAccepted}
 use Rattle.question.proofs.StatementsLaws.{statements-length}
+use Rattle.theory.specs.Lists.{Every}
 use Rattle.theory.specs.Rules.{Row}
 use Rattle.theory.specs.Solutions.{allRows}
 use Rattle.theory.specs.Sets.{Test, placesOf, placesDeclared, rowDeclared}
 use Rattle.theory.specs.Reduction.{rule, rowList}
 use Rattle.question.proofs.TestLaws.{and-left, and-both}
-use Rattle.theory.proofs.RuleLaws.{EveryRow, TermsBelow, every-map, all-every, every-all, rules-few, RowNamed, rows-named}
+use Rattle.theory.proofs.ListLaws.{every-map, all-every, every-all}
+use Rattle.theory.proofs.RuleLaws.{TermsBelow, rules-few, RowNamed, rows-named}
 use Rattle.theory.proofs.PlaceLaws.{Named, places-more, rules-named}
 use Rattle.theory.proofs.DemandThree.{rulesOf, terms-are}
 
@@ -39,7 +41,7 @@ module _ (q : Question) (accepted : IsAccepted q) where
   unfolding rowList
   rows-declared = every-all (rowDeclared (termsOf q) (q .sets)) (rowList q) (every-map NamedHere (λ r. T (rowDeclared (termsOf q) (q .sets) r)) named-declared (rowList q) all-named)
     where
-      all-named : EveryRow NamedHere (rowList q)
+      all-named : Every NamedHere (rowList q)
       all-named = rows-named (q .elements) (Named (q .elements) (q .sets)) (termsOf q) (q .elements) (rulesOf q)
           (rules-named (q .elements) (q .sets) (statements q) (accepted .all-declared)) (omega (arith, terms-are q)) (omega (arith, terms-are q))
 

@@ -1,4 +1,5 @@
 -- The definitions in the order of the data's way: arrangements and rows of any kind of test, then those of a question about sets.
+pub mod Lists
 pub mod Arrangements
 pub mod Patterns
 pub mod Searches
