@@ -6,13 +6,14 @@ use mathlib.Core.List.{List}
 use mathlib.Core.Option.{Option, none, some, Option·map}
 use native.Mathlib.Omega.{arith}
 use lib.Dec.{T}
+use Rattle.question.proofs.TestLaws.{T-true}
 use Rattle.theory.specs.Arrangements.{classes}
 use Rattle.theory.specs.Searches.{eachFrom}
 use Rattle.theory.specs.Rules.{Row}
 use Rattle.theory.specs.Solutions.{withMasks, maskOf}
 use Rattle.theory.specs.FirstModels.{servesAll, smallestMask, modelOf}
-use Rattle.theory.proofs.SearchLaws.{EachIs, eachFrom-is}
-use Rattle.theory.proofs.MaskLaws.{SmallestIs, smallestMask-is}
+use Rattle.theory.proofs.SearchLaws.{EachIs, eachFrom-is, SmallestIs}
+use Rattle.theory.proofs.MaskLaws.{smallestMask-is}
 
 module _ {Test : Type 0} (fits : ℕ → (ℕ → Bool) → Test → Bool) (bound : ℕ) (rows : List (Row Test)) where
   -- then it has no model
@@ -26,5 +27,5 @@ module _ {Test : Type 0} (fits : ℕ → (ℕ → Bool) → Test → Bool) (boun
       go : (o : Option (List ℕ)) → EachIs (classes l) 0 each 0 o → Option·map (withMasks l) o ≡ none
       go none h = refl
       go (some ms) h =
-          let s : SmallestIs fits bound rows l k (some (maskOf ms k)) = subst (SmallestIs fits bound rows l k) (ap each (omega arith) ∙ h .1 k lt) (smallestMask-is fits bound rows l k) in
-          absurd (no-mask (maskOf ms k) (s .0) (s .1))
+          let s : SmallestIs bound (servesAll fits rows l k) (some (maskOf ms k)) = subst (SmallestIs bound (servesAll fits rows l k)) (ap each (omega arith) ∙ h .1 k lt) (smallestMask-is fits bound rows l k) in
+          absurd (no-mask (maskOf ms k) (s .0) (T-true (s .1)))

@@ -12,6 +12,7 @@ pub mod ModelLaws
 pub mod TermLaws
 pub mod ReductionLaws
 pub mod MaskLaws
+pub mod ClassLaws
 pub mod FirstModelLaws
 pub mod CutLaws
 pub mod SameRowLaws

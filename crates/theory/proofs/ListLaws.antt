@@ -14,6 +14,10 @@ module _ {A : Type 0} where
   every-map P Q f [] h = tt
   every-map P Q f (x ∷ xs) h = (f x (h .0), every-map P Q f xs (h .1))
 
+  pub every-both : (P Q R : A → Type 0) → ((x : A) → P x → Q x → R x) → (xs : List A) → Every P xs → Every Q xs → Every R xs
+  every-both P Q R f [] h k = tt
+  every-both P Q R f (x ∷ xs) h k = (f x (h .0) (k .0), every-both P Q R f xs (h .1) (k .1))
+
   module _ (P : A → Type 0) where
     pub every-front : (xs ys : List A) → Every P (xs ++ ys) → Every P xs
     every-front [] ys h = tt

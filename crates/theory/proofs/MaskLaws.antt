@@ -1,9 +1,9 @@
 -- Classes are independent: masks meet every row exactly if each serves its class. So the smallest masks class by class are the smallest together.
 use Prim.Native.Nat.{ℕ, _≤_, _<_}
 use mathlib.Core.Path.{_≡_, refl, sym, ap, subst, _∙_}
-use mathlib.Core.Bool.{Bool, true, false, not, _||_, cond}
+use mathlib.Core.Bool.{Bool, true, false, not, _||_}
 use mathlib.Core.List.{List, [], _∷_}
-use mathlib.Core.Option.{Option, none, some, Option·map, Option·none-ne-some, Option·some-ne-none}
+use mathlib.Core.Option.{Option, none, some, Option·map}
 use native.Mathlib.Omega.{arith}
 use native.Mathlib.Decide.{decLe}
 use borrow.Author.Tests.{eqb-true, eq-eqb}
@@ -12,13 +12,13 @@ use lib.ListN.{length}
 use lib.Seq.{ext-getD}
 use Rattle.theory.specs.Lists.{Every}
 use Rattle.theory.specs.Arrangements.{IsArrangement, classes, classOf, inClass}
-use Rattle.theory.specs.Searches.{firstFrom, eachFrom}
+use Rattle.theory.specs.Searches.{eachFrom}
 use Rattle.theory.specs.Rules.{Row}
 use Rattle.theory.specs.Solutions.{Solution, withMasks, maskOf, allRows, metBy, met, IsSolution}
 use Rattle.theory.specs.FirstModels.{serves, servesAll, smallestMask, modelOf, HasSmallest}
-use Rattle.question.proofs.TestLaws.{true-T}
+use Rattle.question.proofs.TestLaws.{T-true}
 use Rattle.theory.proofs.ArrangementLaws.{class-below}
-use Rattle.theory.proofs.SearchLaws.{FirstNumberIs, firstFrom-is, EachIs, eachFrom-is}
+use Rattle.theory.proofs.SearchLaws.{EachIs, eachFrom-is, SmallestIs, firstPassing-is}
 use Rattle.theory.proofs.ListLaws.{all-every, every-all, all-map}
 use Rattle.theory.proofs.RuleLaws.{TermsBelow}
 
@@ -50,34 +50,9 @@ module _ {Test : Type 0} (fits : ℕ → (ℕ → Bool) → Test → Bool) where
     serves-met rows below h = every-all (met fits l ms) rows (serves-rows rows below (λ k lt. all-every (serves fits l k (maskOf ms k)) rows (h k lt)))
 
   module _ (bound : ℕ) (rows : List (Row Test)) where
-    -- the smallest mask of a class, or no mask below the bound serves it
-    abbrev pub SmallestIs : List ℕ → ℕ → Option ℕ → Type 0
-    SmallestIs l k none = (m : ℕ) → m < bound → T (servesAll fits rows l k m) → ⊥
-    SmallestIs l k (some m) = (m < bound) × T (servesAll fits rows l k m) × ((i : ℕ) → T (servesAll fits rows l k i) → m ≤ i)
-
-    pub smallestMask-is : (l : List ℕ) (k : ℕ) → SmallestIs l k (smallestMask fits bound rows l k)
+    pub smallestMask-is : (l : List ℕ) (k : ℕ) → SmallestIs bound (servesAll fits rows l k) (smallestMask fits bound rows l k)
     unfolding smallestMask
-    smallestMask-is l k = go (firstFrom bound 0 try) (firstFrom-is bound 0 try)
-      where
-        try : ℕ → Option ℕ
-        try m = cond (servesAll fits rows l k m) (some m) none
-
-        fails : (m : ℕ) → try m ≡ none → T (servesAll fits rows l k m) → ⊥
-        fails m e h = Option·some-ne-none m (subst (λ b. cond b (some m) none ≡ none) (true-T (servesAll fits rows l k m) h) e)
-
-        passed : (m n : ℕ) (b : Bool) → cond b (some m) none ≡ some n → T b × (m ≡ n)
-        passed m n true e = (tt, cc)
-        passed m n false e = absurd (Option·none-ne-some n e)
-
-        least : (m i : ℕ) → ((j : ℕ) → 0 ≤ j → j < m → try j ≡ none) → T (servesAll fits rows l k i) → Dec (m ≤ i) → m ≤ i
-        least m i h s (yes q) = q
-        least m i h s (no q) = absurd (fails i (h i (omega arith) (omega arith)) s)
-
-        go : (o : Option ℕ) → FirstNumberIs bound 0 try o → SmallestIs l k o
-        go none h = λ m lt. fails m (h m (omega arith) (omega arith))
-        go (some m) h = let p = passed (h .at) m (servesAll fits rows l k (h .at)) (h .gives) in
-            let e : h .at ≡ m = p .1 in
-            (omega arith, subst (λ j. T (servesAll fits rows l k j)) e (p .0), λ i s. least m i (λ j low lt. h .none-before j low (omega arith)) s (decLe m i))
+    smallestMask-is l k = firstPassing-is bound (servesAll fits rows l k)
 
     module _ (terms : ℕ) where
       -- the model of an arrangement: its solution with the smallest masks, or it has no solution
@@ -92,15 +67,19 @@ module _ {Test : Type 0} (fits : ℕ → (ℕ → Bool) → Test → Bool) where
           each : ℕ → Option ℕ
           each = smallestMask fits bound rows l
 
-          is : (k : ℕ) (o : Option ℕ) → each k ≡ o → SmallestIs l k o
-          is k o e = subst (SmallestIs l k) e (smallestMask-is l k)
+          is : (k : ℕ) (o : Option ℕ) → each k ≡ o → SmallestIs bound (servesAll fits rows l k) o
+          is k o e = subst (SmallestIs bound (servesAll fits rows l k)) e (smallestMask-is l k)
 
           go : (o : Option (List ℕ)) → EachIs (classes l) 0 each 0 o → ModelIs l (Option·map (withMasks l) o)
-          go none h = λ ms s. is (h .0) none (h .3) (maskOf ms (h .0)) (s .masks-below (h .0) (omega arith)) (met-serves l ms rows (s .rows-met) (h .0))
-          go (some ms) h = (refl, solved, λ k m lt low s. has k lt .2 m s)
+          go none h = λ ms s. subst T (is (h .0) none (h .3) (maskOf ms (h .0)) (s .masks-below (h .0) (omega arith))) (met-serves l ms rows (s .rows-met) (h .0))
+          go (some ms) h = (refl, solved, λ k m lt low s. least k m lt s (decLe (maskOf ms k) m))
             where
-              has : (k : ℕ) → k < classes l → SmallestIs l k (some (maskOf ms k))
+              has : (k : ℕ) → k < classes l → SmallestIs bound (servesAll fits rows l k) (some (maskOf ms k))
               has k lt = is k (some (maskOf ms k)) (ap each (omega arith) ∙ h .1 k lt)
+
+              least : (k m : ℕ) → k < classes l → T (servesAll fits rows l k m) → Dec (maskOf ms k ≤ m) → maskOf ms k ≤ m
+              least k m lt s (yes q) = q
+              least k m lt s (no q) = absurd (subst T (has k lt .2 m (omega arith)) s)
 
               solved : IsSolution fits terms bound rows (withMasks l ms)
               solved = record {
@@ -108,7 +87,7 @@ module _ {Test : Type 0} (fits : ℕ → (ℕ → Bool) → Test → Bool) where
                 each-term = long;
                 each-class = h .0;
                 masks-below = λ k lt. has k lt .0;
-                rows-met = serves-met l ms rows (subst (λ n. TermsBelow n rows) (sym long) below) (λ k lt. has k lt .1);
+                rows-met = serves-met l ms rows (subst (λ n. TermsBelow n rows) (sym long) below) (λ k lt. T-true (has k lt .1));
               }
 
       -- of two solutions with the same arrangement, one with the smallest masks has none that is larger

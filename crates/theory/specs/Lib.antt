@@ -6,6 +6,7 @@ pub mod Searches
 pub mod Rules
 pub mod Solutions
 pub mod FirstModels
+pub mod Classes
 pub mod Sets
 pub mod Renamings
 pub mod Reduction
