@@ -2,7 +2,7 @@
 use Prim.Native.Nat.{ℕ, _+_, _<_}
 use mathlib.Core.Path.{_≡_, refl, sym, ap, subst, _∙_}
 use mathlib.Core.Bool.{Bool, true, false, _||_}
-use mathlib.Core.List.{List}
+use mathlib.Core.List.{List, [], _∷_}
 use mathlib.Core.Logic.{_⊎_, inl, inr, ⊎-elim}
 use native.Mathlib.Omega.{arith}
 use native.Mathlib.Decide.{decLt}
@@ -10,7 +10,7 @@ use borrow.Author.Tests.{eqb-true}
 use lib.Dec.{T, eqb, ltb, ltb→lt, lt→ltb}
 use Rattle.question.specs.Masks.{bit}
 use Rattle.question.proofs.TestLaws.{true-T, and-left, and-right, and-both}
-use Rattle.theory.specs.Lists.{Every}
+use Rattle.theory.specs.Lists.{allOf, Every}
 use Rattle.theory.specs.Rules.{Row}
 use Rattle.theory.proofs.ListLaws.{every-map, every-both, all-every, every-all, all-map}
 use Rattle.cut.specs.Asked.{askedKnown, allAskedKnown, before}
@@ -36,6 +36,10 @@ or-more false a b f h = f h
 
 pub known-more : {Test : Type 0} (asks : Test → List ℕ) (known more : ℕ → Bool) → ((d : ℕ) → T (known d) → T (more d)) → (c : ℕ) (t : Test) → T (askedKnown asks known c t) → T (askedKnown asks more c t)
 known-more asks known more sub c t = all-map (λ d. eqb d c || known d) (λ d. eqb d c || more d) (λ d. or-more (eqb d c) (known d) (more d) (sub d)) (asks t)
+
+-- where one term is asked for, it is enough that this is known
+pub one-known : (known : ℕ → Bool) (c d : ℕ) → T (eqb d c || known d) → T (allOf (λ e. eqb e c || known e) (d ∷ []))
+one-known known c d h = and-both (eqb d c || known d) true h tt
 
 -- rows within so many terms ask for none but these
 module _ {Test : Type 0} (F : Family Test) (terms asked : ℕ) where

@@ -10,12 +10,12 @@ use lib.Bits.{bitOr}
 use lib.Dec.{T}
 use Rattle.question.specs.Masks.{bit}
 use Rattle.question.proofs.TestLaws.{T-true, true-T, same-test}
-use Rattle.theory.specs.Arrangements.{classes, inClass}
+use Rattle.theory.specs.Arrangements.{inClass}
 use Rattle.theory.specs.Rules.{Row}
 use Rattle.theory.specs.FirstModels.{serves, modelOf}
 use Rattle.theory.specs.Solutions.{allRows, metBy}
 use Rattle.theory.specs.Classes.{meetsRow, leastMask}
-use Rattle.theory.proofs.CutLaws.{no-model}
+use Rattle.theory.proofs.MaskLaws.{no-model}
 use Rattle.theory.proofs.ListLaws.{every-both, all-every, every-all}
 use Rattle.theory.proofs.ClassLaws.{LeastIs, leastMask-is}
 use Rattle.mask.proofs.BitLaws.{only-bit, or-right}

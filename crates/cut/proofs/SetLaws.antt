@@ -3,15 +3,14 @@ use Prim.Native.Nat.{ℕ, _<_}
 use mathlib.Core.Path.{_≡_, refl}
 use mathlib.Core.Bool.{Bool, true, false, not, cond}
 use mathlib.Core.List.{List, [], _∷_}
-use lib.Dec.{T, eqb, ltb, ltb→lt}
+use lib.Dec.{T, eqb, ltb→lt}
 use Rattle.question.specs.Masks.{bit}
-use Rattle.question.proofs.TestLaws.{and-left, and-right}
 use Rattle.theory.specs.Lists.{Every}
 use Rattle.theory.specs.Rules.{Row}
 use Rattle.theory.specs.Solutions.{allRows}
-use Rattle.theory.specs.Sets.{Test, IsSame, IsNotSame, IsIn, IsNotIn, ExactlyIfIn, ExactlyIfNotIn, ExactlyIfSame, ExactlyIfOr, ExactlyIfAnd, ExactlyIfAndNot, fits, Place, term, set, placesOf, termsAmong, kindOf, placeDeclared, placesDeclared, rowDeclared}
+use Rattle.theory.specs.Sets.{Test, IsSame, IsNotSame, IsIn, IsNotIn, ExactlyIfIn, ExactlyIfNotIn, ExactlyIfSame, ExactlyIfOr, ExactlyIfAnd, ExactlyIfAndNot, fits, Place, term, set, placesOf, termsAmong, kindOf, placeDeclared, rowDeclared}
 use Rattle.theory.proofs.ListLaws.{every-map, all-every}
-use Rattle.theory.proofs.PlaceLaws.{Agree, passes-places}
+use Rattle.theory.proofs.PlaceLaws.{Agree, passes-places, declared-term, declared-places}
 use Rattle.cut.specs.Asked.{asks}
 use Rattle.cut.specs.Families.{Family, Within}
 
@@ -27,6 +26,7 @@ module _ (P : ℕ → Type 0) (Q : Place → Type 0) where
   of-terms f g (term c ∷ ps) h = (f c (h .0), of-terms f g ps (h .1))
   of-terms f g (set x ∷ ps) h = (g x, of-terms f g ps h)
 
+-- the three laws of a family
 pub looks-at-terms : (m : ℕ) (same other : ℕ → Bool) (t : Test) → Every (λ d. same d ≡ other d) (termsAmong (placesOf t)) → fits m same t ≡ fits m other t
 looks-at-terms m same other t e = passes-places (bit m) (bit m) same other t (of-terms (λ d. same d ≡ other d) (Agree (bit m) (bit m) same other) (λ c h. h) (λ x. refl) (placesOf t) e)
 
@@ -54,20 +54,17 @@ fewer-terms m few all (ExactlyIfOr x y z) sub e p = p
 fewer-terms m few all (ExactlyIfAnd x y z) sub e p = p
 fewer-terms m few all (ExactlyIfAndNot x y z) sub e p = p
 
+-- the family
 abbrev pub setTests : Family Test
 setTests = record { fits = fits; names = λ t. termsAmong (placesOf t); asks = asks; looks = looks-at-terms; named = asks-of-named; fewer = fewer-terms }
 
 -- declared rows are within the terms that there are
 module _ (terms sets : ℕ) where
-  declared-place : (c : ℕ) → T (placeDeclared terms sets (term c)) → c < terms
-  declared-place c h = ltb→lt c terms h
-
   row-within : (r : Row Test) → T (rowDeclared terms sets r) → Within setTests terms r
-  row-within r d =
-      let places = and-right (ltb (r .term) terms) (placesDeclared terms sets (placesOf (r .test))) d in (
-        ltb→lt (r .term) terms (and-left (ltb (r .term) terms) (placesDeclared terms sets (placesOf (r .test))) d),
-        at-terms (λ c. c < terms) (λ p. T (placeDeclared terms sets p)) declared-place (placesOf (r .test)) (all-every (placeDeclared terms sets) (placesOf (r .test)) places),
-      )
+  row-within r d = (
+    declared-term terms sets r d,
+    at-terms (λ c. c < terms) (λ p. T (placeDeclared terms sets p)) (λ c h. ltb→lt c terms h) (placesOf (r .test)) (all-every (placeDeclared terms sets) (placesOf (r .test)) (declared-places terms sets r d)),
+  )
 
   pub declared-within : (rows : List (Row Test)) → T (allRows (rowDeclared terms sets) rows) → Every (Within setTests terms) rows
   declared-within rows d = every-map (λ r. T (rowDeclared terms sets r)) (Within setTests terms) row-within rows (all-every (rowDeclared terms sets) rows d)

@@ -1,4 +1,4 @@
--- The terms that rows ask for.
+-- The terms that rows ask for: of any family of tests, then of tests of sets.
 use Prim.Native.Nat.{ℕ}
 use mathlib.Core.Bool.{Bool, _&&_, _||_, cond}
 use mathlib.Core.List.{List, []}
@@ -9,11 +9,7 @@ use Rattle.theory.specs.Rules.{Row}
 use Rattle.theory.specs.Solutions.{allRows}
 use Rattle.theory.specs.Sets.{Test, placesOf, termsAmong, kindOf}
 
--- the terms that a test of sets asks for: those among its places. "Is not the same", kind 1, asks for none: where it fails for some terms of a class, it fails for all of them
-abbrev pub asks : Test → List ℕ
-asks t = cond (eqb (kindOf t) 1) [] (termsAmong (placesOf t))
-
--- `asks t`: the terms that the test t asks for, in any family
+-- `asks t`: the terms that the test t asks for
 module _ {Test : Type 0} (asks : Test → List ℕ) where
   -- are the terms known that a test of the term c asks for, but for c itself
   abbrev pub askedKnown : (ℕ → Bool) → ℕ → Test → Bool
@@ -26,3 +22,7 @@ module _ {Test : Type 0} (asks : Test → List ℕ) where
 -- the terms of a set, a number, that come before the term t
 abbrev pub before : ℕ → ℕ → ℕ → Bool
 before asked t d = bit asked d && ltb d t
+
+-- the terms that a test of sets asks for: those among its places. "Is not the same", kind 1, asks for none: where it fails for some terms of a class, it fails for all of them
+abbrev pub asks : Test → List ℕ
+asks t = cond (eqb (kindOf t) 1) [] (termsAmong (placesOf t))

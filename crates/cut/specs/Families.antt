@@ -7,6 +7,7 @@ use lib.Dec.{T}
 use Rattle.theory.specs.Lists.{Every}
 use Rattle.theory.specs.Rules.{Row}
 
+-- a family of tests: three operations, and three laws about them
 pub record Family (Test : Type 0) : Type 0 where
   -- does a term pass a test, where its class's mask is given and which terms are the same as it
   pub fits : ℕ → (ℕ → Bool) → Test → Bool

@@ -9,6 +9,7 @@ use Rattle.theory.specs.Classes.{meetsAll, leastMask}
 use Rattle.theory.proofs.SearchLaws.{SmallestIs, firstPassing-is, firstPassing-one}
 
 module _ {Test : Type 0} (fits : ℕ → (ℕ → Bool) → Test → Bool) (bound : ℕ) (rows : List (Row Test)) (class : ℕ) where
+  -- the smallest mask below the bound that meets every row, or none does
   abbrev pub LeastIs : Option ℕ → Type 0
   LeastIs o = SmallestIs bound (meetsAll fits rows class) o
 

@@ -2,6 +2,7 @@
 -- DemandThree, AnswerLaws, RowListLaws and Cases say what the definitions are for; the others lead there or serve the code of other crates.
 pub mod CountLaws
 pub mod DigitLaws
+pub mod BitLaws
 pub mod ListLaws
 pub mod ArrangementLaws
 pub mod SearchLaws
@@ -14,7 +15,6 @@ pub mod ReductionLaws
 pub mod MaskLaws
 pub mod ClassLaws
 pub mod FirstModelLaws
-pub mod CutLaws
 pub mod SameRowLaws
 pub mod SameArrangementLaws
 pub mod AskedLaws

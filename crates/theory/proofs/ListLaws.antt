@@ -72,6 +72,10 @@ map-at f [] i d e lt = absurd (omega arith)
 map-at f (x ∷ xs) zero d e lt = refl
 map-at f (x ∷ xs) (suc i) d e lt = map-at f xs i d e (omega arith)
 
+pub every-mapped : {A B : Type 0} (P : B → Type 0) (g : A → B) (xs : List A) → Every (λ x. P (g x)) xs → Every P (map g xs)
+every-mapped P g [] h = tt
+every-mapped P g (x ∷ xs) h = (h .0, every-mapped P g xs (h .1))
+
 pub all-mapped : {A B : Type 0} (f : B → Bool) (g : A → B) (xs : List A) → allOf f (map g xs) ≡ allOf (λ x. f (g x)) xs
 all-mapped f g [] = refl
 all-mapped f g (x ∷ xs) = cc (all-mapped f g xs)

@@ -54,6 +54,27 @@ module _ {Test : Type 0} (fits : ℕ → (ℕ → Bool) → Test → Bool) where
     unfolding smallestMask
     smallestMask-is l k = firstPassing-is bound (servesAll fits rows l k)
 
+    -- masks found for each class are the smallest
+    module _ (l ms : List ℕ) (each : EachIs (classes l) 0 (smallestMask fits bound rows l) 0 (some ms)) where
+      each-smallest : (k : ℕ) → k < classes l → SmallestIs bound (servesAll fits rows l k) (some (maskOf ms k))
+      each-smallest k lt = subst (SmallestIs bound (servesAll fits rows l k)) (ap (smallestMask fits bound rows l) (omega arith) ∙ each .1 k lt) (smallestMask-is l k)
+
+      each-least : (k m : ℕ) → k < classes l → T (servesAll fits rows l k m) → maskOf ms k ≤ m
+      each-least k m lt s = go (decLe (maskOf ms k) m)
+        where
+          go : Dec (maskOf ms k ≤ m) → maskOf ms k ≤ m
+          go (yes q) = q
+          go (no q) = absurd (subst T (each-smallest k lt .2 m (omega arith)) s)
+
+    -- an arrangement with a class that no mask serves has no model
+    pub no-model : (l : List ℕ) (k : ℕ) → k < classes l → ((m : ℕ) → m < bound → T (servesAll fits rows l k m) → ⊥) → modelOf fits bound rows l ≡ none
+    unfolding modelOf
+    no-model l k lt no-mask = go (eachFrom (classes l) 0 (smallestMask fits bound rows l)) (eachFrom-is (classes l) 0 (smallestMask fits bound rows l) 0)
+      where
+        go : (o : Option (List ℕ)) → EachIs (classes l) 0 (smallestMask fits bound rows l) 0 o → Option·map (withMasks l) o ≡ none
+        go none h = refl
+        go (some ms) h = let s = each-smallest l ms h k lt in absurd (no-mask (maskOf ms k) (s .0) (T-true (s .1)))
+
     module _ (terms : ℕ) where
       -- the model of an arrangement: its solution with the smallest masks, or it has no solution
       abbrev pub ModelIs : List ℕ → Option Solution → Type 0
@@ -67,27 +88,17 @@ module _ {Test : Type 0} (fits : ℕ → (ℕ → Bool) → Test → Bool) where
           each : ℕ → Option ℕ
           each = smallestMask fits bound rows l
 
-          is : (k : ℕ) (o : Option ℕ) → each k ≡ o → SmallestIs bound (servesAll fits rows l k) o
-          is k o e = subst (SmallestIs bound (servesAll fits rows l k)) e (smallestMask-is l k)
-
           go : (o : Option (List ℕ)) → EachIs (classes l) 0 each 0 o → ModelIs l (Option·map (withMasks l) o)
-          go none h = λ ms s. subst T (is (h .0) none (h .3) (maskOf ms (h .0)) (s .masks-below (h .0) (omega arith))) (met-serves l ms rows (s .rows-met) (h .0))
-          go (some ms) h = (refl, solved, λ k m lt low s. least k m lt s (decLe (maskOf ms k) m))
+          go none h = λ ms s. subst T (subst (SmallestIs bound (servesAll fits rows l (h .0))) (h .3) (smallestMask-is l (h .0)) (maskOf ms (h .0)) (s .masks-below (h .0) (omega arith))) (met-serves l ms rows (s .rows-met) (h .0))
+          go (some ms) h = (refl, solved, λ k m lt low s. each-least l ms h k m lt s)
             where
-              has : (k : ℕ) → k < classes l → SmallestIs bound (servesAll fits rows l k) (some (maskOf ms k))
-              has k lt = is k (some (maskOf ms k)) (ap each (omega arith) ∙ h .1 k lt)
-
-              least : (k m : ℕ) → k < classes l → T (servesAll fits rows l k m) → Dec (maskOf ms k ≤ m) → maskOf ms k ≤ m
-              least k m lt s (yes q) = q
-              least k m lt s (no q) = absurd (subst T (has k lt .2 m (omega arith)) s)
-
               solved : IsSolution fits terms bound rows (withMasks l ms)
               solved = record {
                 arranged = arranged;
                 each-term = long;
                 each-class = h .0;
-                masks-below = λ k lt. has k lt .0;
-                rows-met = serves-met l ms rows (subst (λ n. TermsBelow n rows) (sym long) below) (λ k lt. T-true (has k lt .1));
+                masks-below = λ k lt. each-smallest l ms h k lt .0;
+                rows-met = serves-met l ms rows (subst (λ n. TermsBelow n rows) (sym long) below) (λ k lt. T-true (each-smallest l ms h k lt .1));
               }
 
       -- of two solutions with the same arrangement, one with the smallest masks has none that is larger

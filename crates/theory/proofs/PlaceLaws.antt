@@ -13,8 +13,8 @@ use Rattle.question.specs.Questions.{witness, witnesses}
 use Rattle.question.specs.Admissions.{declared, leftmost, nameTest}
 use Rattle.question.specs.Checks.{AllDeclared}
 use Rattle.theory.specs.Lists.{Every}
-use Rattle.theory.specs.Rules.{Rule, OneTerm, EachTerm, OwnWitness, ownWitness}
-use Rattle.theory.specs.Sets.{Test, IsSame, IsNotSame, IsIn, IsNotIn, ExactlyIfIn, ExactlyIfNotIn, ExactlyIfSame, ExactlyIfOr, ExactlyIfAnd, ExactlyIfAndNot, passes, Place, term, set, placesOf, kindOf, testWith, placeDeclared, placesDeclared}
+use Rattle.theory.specs.Rules.{Row, Rule, OneTerm, EachTerm, OwnWitness, ownWitness}
+use Rattle.theory.specs.Sets.{Test, IsSame, IsNotSame, IsIn, IsNotIn, ExactlyIfIn, ExactlyIfNotIn, ExactlyIfSame, ExactlyIfOr, ExactlyIfAnd, ExactlyIfAndNot, passes, Place, term, set, placesOf, kindOf, testWith, placeDeclared, placesDeclared, rowDeclared}
 use Rattle.theory.specs.Reduction.{rule}
 use Rattle.question.proofs.TestLaws.{and-left, and-right}
 use Rattle.theory.proofs.ListLaws.{every-map, all-every, all-map}
@@ -54,6 +54,14 @@ module _ (E S terms sets : ℕ) (e : E ≤ terms) (s : S ≤ sets) where
 
   pub places-more : (ps : List Place) → T (placesDeclared E S ps) → T (placesDeclared terms sets ps)
   places-more = all-map (placeDeclared E S) (placeDeclared terms sets) place-more
+
+-- the term of a declared row, and its places
+module _ (terms sets : ℕ) (r : Row Test) (declared : T (rowDeclared terms sets r)) where
+  pub declared-term : r .term < terms
+  declared-term = ltb→lt (r .term) terms (and-left (ltb (r .term) terms) (placesDeclared terms sets (placesOf (r .test))) declared)
+
+  pub declared-places : T (placesDeclared terms sets (placesOf (r .test)))
+  declared-places = and-right (ltb (r .term) terms) (placesDeclared terms sets (placesOf (r .test))) declared
 
 -- the test of the kind of a test with its places is that test
 pub test-again : (t : Test) → testWith (kindOf t) (placesOf t) ≡ t

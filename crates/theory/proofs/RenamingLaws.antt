@@ -1,43 +1,55 @@
 -- Rows with other numbers for the sets have solutions in the same arrangements: the bits of each mask move with the numbers.
-use Prim.Native.Nat.{ℕ, _/_, _^_, _<_}
+use Prim.Native.Nat.{ℕ, _^_, _<_}
 use mathlib.Core.Path.{_≡_, refl, sym, ap, subst, _∙_}
 use mathlib.Core.Bool.{Bool}
-use mathlib.Core.List.{List, [], _∷_, map}
+use mathlib.Core.List.{List, map}
 use mathlib.Core.Option.{none, some}
 use native.Mathlib.Omega.{arith}
-use native.Mathlib.Nat.{mod-lt}
-use lib.Dec.{T, eqb, ltb, ltb→lt, lt→ltb}
+use lib.Dec.{T, ltb, ltb→lt, lt→ltb}
 use lib.ListN.{length, length-map}
 use Rattle.question.specs.Masks.{bit}
-use Rattle.question.proofs.TestLaws.{and-left, and-right, and-both}
+use Rattle.question.proofs.TestLaws.{and-both}
 use Rattle.theory.specs.Arrangements.{classes, classOf, inClass}
 use Rattle.theory.specs.Rules.{Row, row}
 use Rattle.theory.specs.Solutions.{Solution, maskOf, allRows, met}
 use Rattle.theory.specs.FirstModels.{modelOf, firstModel}
 use Rattle.theory.specs.Sets.{Test, IsSame, IsNotSame, IsIn, IsNotIn, ExactlyIfIn, ExactlyIfNotIn, ExactlyIfSame, ExactlyIfOr, ExactlyIfAnd, ExactlyIfAndNot, passes, fits, Place, term, set, placesOf, kindOf, testWith, placeDeclared, placesDeclared, rowDeclared}
 use Rattle.theory.specs.Renamings.{renamedPlace, renamedTest, renamedRow, IsRenaming}
-use Rattle.theory.proofs.DigitLaws.{digit, number, number-below, number-digit}
-use Rattle.theory.proofs.ListLaws.{map-stays, all-same, all-every, all-map, map-at, all-mapped}
+use Rattle.theory.proofs.BitLaws.{ofBits, ofBits-below, ofBits-bit}
+use Rattle.theory.proofs.ListLaws.{map-stays, all-same, all-every, all-map, map-at, every-mapped, all-mapped}
 use Rattle.theory.proofs.ArrangementLaws.{class-below}
 use Rattle.theory.proofs.RuleLaws.{TermsBelow}
-use Rattle.theory.proofs.PlaceLaws.{passes-local, test-again}
+use Rattle.theory.proofs.PlaceLaws.{passes-local, declared-term, declared-places, test-again}
 use Rattle.theory.proofs.RowListLaws.{declared-below}
 use Rattle.theory.proofs.SameArrangementLaws.{SolvedToo, none-either, same-arrangement}
 
--- the mask of so many bits whose bit x is bit `from x` of m
-moved : ℕ → (ℕ → ℕ) → ℕ → ℕ
-moved sets from m = number 2 sets (λ x. digit 2 m (from x))
+-- masks whose bit x is bit `from x` of those of a solution: where they meet others, the same arrangement solves these
+module _ (terms sets : ℕ) (from : ℕ → ℕ) (rows others : List (Row Test)) where
+  moved : ℕ → ℕ
+  moved m = ofBits sets (λ x. bit m (from x))
 
-digit-small : (m x : ℕ) → digit 2 m x < 2
-digit-small m x = mod-lt (m / 2 ^ x) (omega arith)
+  -- the classes of l have such masks
+  abbrev Moved : List ℕ → List ℕ → List ℕ → Type 0
+  Moved l ms news = (k : ℕ) → k < classes l → (x : ℕ) → x < sets → bit (maskOf news k) x ≡ bit (maskOf ms k) (from x)
 
-moved-below : (sets : ℕ) (from : ℕ → ℕ) (m : ℕ) → moved sets from m < 2 ^ sets
-unfolding moved
-moved-below sets from m = number-below 2 sets (λ x. digit 2 m (from x)) (λ x. digit-small m (from x))
+  moved-solves : ((l ms news : List ℕ) → length l ≡ terms → Moved l ms news → T (allRows (met fits l ms) rows) → T (allRows (met fits l news) others)) → SolvedToo fits terms (2 ^ sets) rows others
+  unfolding moved
+  moved-solves meet sol s = (
+    news,
+    record {
+      arranged = s .arranged;
+      each-term = s .each-term;
+      each-class = length-map (sol .masks) moved ∙ s .each-class;
+      masks-below = λ k lt. subst (λ m. m < 2 ^ sets) (sym (at-k k lt)) (ofBits-below sets (λ x. bit (maskOf (sol .masks) k) (from x)));
+      rows-met = meet (sol .arrangement) (sol .masks) news (s .each-term) (λ k lt x h. ap (λ m. bit m x) (at-k k lt) ∙ ofBits-bit sets (λ x. bit (maskOf (sol .masks) k) (from x)) x h) (s .rows-met);
+    },
+  )
+    where
+      news : List ℕ
+      news = map moved (sol .masks)
 
-moved-bit : (sets : ℕ) (from : ℕ → ℕ) (m x : ℕ) → x < sets → bit (moved sets from m) x ≡ bit m (from x)
-unfolding moved
-moved-bit sets from m x lt = ap (λ d. eqb d 1) (number-digit 2 sets (λ x. digit 2 m (from x)) (λ x. digit-small m (from x)) x lt)
+      at-k : (k : ℕ) → k < classes (sol .arrangement) → maskOf news k ≡ moved (maskOf (sol .masks) k)
+      at-k k lt = map-at moved (sol .masks) k 0 0 (omega (arith, s .each-class))
 
 -- a renamed test has the renamed places, and is passed where the test would be by what has the sets by their new names
 module _ (to : ℕ → ℕ) where
@@ -71,10 +83,9 @@ module _ (terms sets : ℕ) (to : ℕ → ℕ) where
     row-same : (r : Row Test) → T (rowDeclared terms sets r) → met fits l news (renamedRow to r) ≡ met fits l ms r
     row-same r d =
         let k = classOf l (r .term) in
-        let lt = ltb→lt (r .term) terms (and-left (ltb (r .term) terms) (placesDeclared terms sets (placesOf (r .test))) d) in
+        let lt = declared-term terms sets r d in
         renamed-passes to (bit (maskOf news k)) (inClass l k) (r .test)
-        ∙ passes-local (λ x. bit (maskOf news k) (to x)) (bit (maskOf ms k)) (inClass l k) (inClass l k) terms sets (are k (class-below 0 l (r .term) (omega arith))) (λ a h. refl) (r .test)
-        (and-right (ltb (r .term) terms) (placesDeclared terms sets (placesOf (r .test))) d)
+        ∙ passes-local (λ x. bit (maskOf news k) (to x)) (bit (maskOf ms k)) (inClass l k) (inClass l k) terms sets (are k (class-below 0 l (r .term) (omega arith))) (λ a h. refl) (r .test) (declared-places terms sets r d)
 
     rows-same : (rows : List (Row Test)) → T (allRows (rowDeclared terms sets) rows) → allRows (met fits l news) (map (renamedRow to) rows) ≡ allRows (met fits l ms) rows
     rows-same rows d = all-mapped (met fits l news) (renamedRow to) rows
@@ -82,51 +93,16 @@ module _ (terms sets : ℕ) (to : ℕ → ℕ) where
 
   module _ (rows : List (Row Test)) (declared : T (allRows (rowDeclared terms sets) rows)) where
     pub renamed-below : TermsBelow terms (map (renamedRow to) rows)
-    renamed-below = go rows (declared-below terms sets rows declared)
-      where
-        go : (rs : List (Row Test)) → TermsBelow terms rs → TermsBelow terms (map (renamedRow to) rs)
-        go [] h = tt
-        go (r ∷ rs) h = (h .0, go rs (h .1))
+    renamed-below = every-mapped (λ r. r .term < terms) (renamedRow to) rows (declared-below terms sets rows declared)
 
     -- an arrangement that solves the renamed rows solves the rows
     pub from-renamed : SolvedToo fits terms (2 ^ sets) (map (renamedRow to) rows) rows
-    from-renamed sol s = (
-      old,
-      record {
-        arranged = s .arranged;
-        each-term = s .each-term;
-        each-class = length-map (sol .masks) (moved sets to) ∙ s .each-class;
-        masks-below = λ k lt. subst (λ m. m < 2 ^ sets) (sym (at-k k lt)) (moved-below sets to (maskOf (sol .masks) k));
-        rows-met = subst T (rows-same (sol .arrangement) old (sol .masks) (λ k lt x h. sym (ap (λ m. bit m x) (at-k k lt) ∙ moved-bit sets to (maskOf (sol .masks) k) x h)) (s .each-term) rows declared) (s .rows-met);
-      },
-    )
-      where
-        old : List ℕ
-        old = map (moved sets to) (sol .masks)
-
-        at-k : (k : ℕ) → k < classes (sol .arrangement) → maskOf old k ≡ moved sets to (maskOf (sol .masks) k)
-        at-k k lt = map-at (moved sets to) (sol .masks) k 0 0 (omega (arith, s .each-class))
+    from-renamed = moved-solves terms sets to (map (renamedRow to) rows) rows (λ l ms news long are. subst T (rows-same l news ms (λ k lt x h. sym (are k lt x h)) long rows declared))
 
     -- and the reverse
     pub to-renamed : (back : ℕ → ℕ) → IsRenaming sets to back → SolvedToo fits terms (2 ^ sets) rows (map (renamedRow to) rows)
-    to-renamed back renaming sol s = (
-      new,
-      record {
-        arranged = s .arranged;
-        each-term = s .each-term;
-        each-class = length-map (sol .masks) (moved sets back) ∙ s .each-class;
-        masks-below = λ k lt. subst (λ m. m < 2 ^ sets) (sym (at-k k lt)) (moved-below sets back (maskOf (sol .masks) k));
-        rows-met = subst T (sym (rows-same (sol .arrangement) (sol .masks) new
-            (λ k lt x h. ap (λ m. bit m (to x)) (at-k k lt) ∙ moved-bit sets back (maskOf (sol .masks) k) (to x) (renaming x h .0) ∙ ap (bit (maskOf (sol .masks) k)) (renaming x h .1))
-            (s .each-term) rows declared)) (s .rows-met);
-      },
-    )
-      where
-        new : List ℕ
-        new = map (moved sets back) (sol .masks)
-
-        at-k : (k : ℕ) → k < classes (sol .arrangement) → maskOf new k ≡ moved sets back (maskOf (sol .masks) k)
-        at-k k lt = map-at (moved sets back) (sol .masks) k 0 0 (omega (arith, s .each-class))
+    to-renamed back renaming = moved-solves terms sets back rows (map (renamedRow to) rows)
+        (λ l ms news long are. subst T (sym (rows-same l ms news (λ k lt x h. are k lt (to x) (renaming x h .0) ∙ ap (bit (maskOf ms k)) (renaming x h .1)) long rows declared)))
 
 -- where the new numbers are those of sets, renamed rows are declared
 module _ (terms sets : ℕ) (to : ℕ → ℕ) (below : (x : ℕ) → x < sets → to x < sets) where
@@ -139,8 +115,8 @@ module _ (terms sets : ℕ) (to : ℕ → ℕ) (below : (x : ℕ) → x < sets �
 
   row-declared : (r : Row Test) → T (rowDeclared terms sets r) → T (rowDeclared terms sets (renamedRow to r))
   row-declared r d =
-      and-both (ltb (r .term) terms) (placesDeclared terms sets (placesOf (renamedTest to (r .test)))) (and-left (ltb (r .term) terms) (placesDeclared terms sets (placesOf (r .test))) d)
-      (subst (λ ps. T (placesDeclared terms sets ps)) (sym (renamed-places to (r .test))) (places-declared (placesOf (r .test)) (and-right (ltb (r .term) terms) (placesDeclared terms sets (placesOf (r .test))) d)))
+      and-both (ltb (r .term) terms) (placesDeclared terms sets (placesOf (renamedTest to (r .test)))) (lt→ltb (r .term) terms (declared-term terms sets r d))
+      (subst (λ ps. T (placesDeclared terms sets ps)) (sym (renamed-places to (r .test))) (places-declared (placesOf (r .test)) (declared-places terms sets r d)))
 
   pub rows-declared-too : (rows : List (Row Test)) → T (allRows (rowDeclared terms sets) rows) → T (allRows (rowDeclared terms sets) (map (renamedRow to) rows))
   rows-declared-too rows d = subst T (sym (all-mapped (rowDeclared terms sets) (renamedRow to) rows)) (all-map (rowDeclared terms sets) (λ r. rowDeclared terms sets (renamedRow to r)) row-declared rows d)
@@ -155,7 +131,7 @@ module _ (terms sets : ℕ) (to : ℕ → ℕ) (plain : (x : ℕ) → x < sets �
   places-stay ps h = map-stays (λ p. T (placeDeclared terms sets p)) (renamedPlace to) place-stays ps (all-every (placeDeclared terms sets) ps h)
 
   row-stays : (r : Row Test) → T (rowDeclared terms sets r) → renamedRow to r ≡ r
-  row-stays r d = ap (row (r .term)) (ap (testWith (kindOf (r .test))) (places-stay (placesOf (r .test)) (and-right (ltb (r .term) terms) (placesDeclared terms sets (placesOf (r .test))) d)) ∙ test-again (r .test))
+  row-stays r d = ap (row (r .term)) (ap (testWith (kindOf (r .test))) (places-stay (placesOf (r .test)) (declared-places terms sets r d)) ∙ test-again (r .test))
 
   pub rows-stay : (rows : List (Row Test)) → T (allRows (rowDeclared terms sets) rows) → map (renamedRow to) rows ≡ rows
   rows-stay rows d = map-stays (λ r. T (rowDeclared terms sets r)) (renamedRow to) row-stays rows (all-every (rowDeclared terms sets) rows d)

@@ -1,4 +1,4 @@
--- The rows of flat sets: the row kinds 0 to 9 of document 01, and when a term passes each.
+-- The rows of flat sets: the row kinds 0 to 9 of document 01, when a term passes each, and the places of each.
 use Prim.Native.Nat.{ℕ}
 use mathlib.Core.Bool.{Bool, not, _&&_, _||_, Bool·beq}
 use mathlib.Core.List.{List, [], _∷_, map}
