@@ -17,14 +17,14 @@ use Rattle.question.proofs.TestLaws.{T-true, true-T}
 use Rattle.theory.specs.Arrangements.{classes, classOf, inClass}
 use Rattle.theory.specs.Rules.{Row}
 use Rattle.theory.specs.FirstModels.{modelOf}
-use Rattle.theory.specs.Sets.{Test, fits}
+use Rattle.theory.proofs.BitLaws.{bit-alone}
 use Rattle.theory.proofs.ArrangementLaws.{class-below, classes-append, classes-grow}
 use Rattle.theory.proofs.SearchLaws.{firstPlacing-none}
 use Rattle.mask.proofs.BitLaws.{only-bit}
 use Rattle.cut.specs.Members.{members}
 use Rattle.cut.specs.Behind.{foundBehind}
 use Rattle.cut.specs.Standings.{Part, Stand, NoneStands}
-use Rattle.cut.proofs.MembersLaws.{bit-alone, members-agree, members-inside}
+use Rattle.cut.proofs.MembersLaws.{members-agree, members-inside}
 use Rattle.cut.proofs.PartLaws.{part-known, part-joined, part-without}
 
 -- is one of n class numbers j
@@ -128,7 +128,7 @@ module _ (p groups : List ℕ) (used : ℕ) (counted : used ≡ classes p) (are 
   }
 
   -- so where no arrangement has a model, nothing is found
-  pub none-found : (bound : ℕ) (rows : List (Row Test)) (left : ℕ) → NoneStands bound rows known groups used (length p + left) → foundBehind bound rows p left ≡ none
+  pub none-found : {Test : Type 0} (fits : ℕ → (ℕ → Bool) → Test → Bool) (bound : ℕ) (rows : List (Row Test)) (left : ℕ) → NoneStands fits bound rows known groups used (length p + left) → foundBehind fits bound rows p left ≡ none
   unfolding foundBehind
-  none-found bound rows left none-stands = firstPlacing-none left (classes p) (λ l. modelOf fits bound rows (p ++ l))
+  none-found fits bound rows left none-stands = firstPlacing-none left (classes p) (λ l. modelOf fits bound rows (p ++ l))
       (λ l f e. none-stands (p ++ l) (λ k. k) (length-append p l ∙ ap (λ n. length p + n) e) (stand-start l))

@@ -1,39 +1,28 @@
 -- Where all terms are placed, the smallest mask of a class is that of its set of terms.
-use Prim.Native.Nat.{ℕ}
-use mathlib.Core.Path.{_≡_, refl, sym, ap, _∙_, fun-ext}
-use mathlib.Core.Bool.{not, _||_, cond}
-use mathlib.Core.List.{List, [], _∷_}
-use mathlib.Core.Option.{none, some}
-use lib.Dec.{T, ltb, ltb→lt}
+use Prim.Native.Nat.{ℕ, _<_}
+use mathlib.Core.Path.{_≡_, sym, ap, _∙_, fun-ext}
+use mathlib.Core.Bool.{not, _||_}
+use mathlib.Core.List.{List}
 use lib.ListN.{length}
 use Rattle.question.specs.Masks.{bit}
+use Rattle.theory.specs.Lists.{Every}
 use Rattle.theory.specs.Arrangements.{inClass}
-use Rattle.theory.specs.Searches.{firstFrom}
+use Rattle.theory.specs.Searches.{firstPassing}
 use Rattle.theory.specs.Rules.{Row}
-use Rattle.theory.specs.Solutions.{allRows}
 use Rattle.theory.specs.FirstModels.{serves, smallestMask}
-use Rattle.theory.specs.Sets.{Test, fits, placesOf, placesDeclared, rowDeclared}
-use Rattle.question.proofs.TestLaws.{and-left, and-right}
-use Rattle.mask.specs.Least.{meetsRow, leastMask}
+use Rattle.theory.specs.Classes.{meetsRow, leastMask}
+use Rattle.theory.proofs.ListLaws.{every-map, all-same}
 use Rattle.cut.specs.Members.{members}
+use Rattle.cut.specs.Families.{Family, Within}
 use Rattle.cut.proofs.MembersLaws.{bit-members}
-use Rattle.cut.proofs.OtherLaws.{declared-same}
 
-module _ (l : List ℕ) (k sets : ℕ) where
-  row-whole : (m : ℕ) (r : Row Test) → T (rowDeclared (length l) sets r) → serves fits l k m r ≡ meetsRow (members l k) m r
-  row-whole m r declared =
-      let term = and-left (ltb (r .term) (length l)) (placesDeclared (length l) sets (placesOf (r .test))) declared in
-      let places = and-right (ltb (r .term) (length l)) (placesDeclared (length l) sets (placesOf (r .test))) declared in
-      ap (λ b. not b || fits m (inClass l k) (r .test)) (sym (bit-members k l (r .term) (ltb→lt (r .term) (length l) term)))
-      ∙ ap (λ b. not (bit (members l k) (r .term)) || b) (declared-same (length l) sets m (inClass l k) (bit (members l k)) (λ d lt. sym (bit-members k l d lt)) (r .test) places)
+module _ {Test : Type 0} (F : Family Test) (l : List ℕ) (k : ℕ) where
+  row-whole : (m : ℕ) (r : Row Test) → Within F (length l) r → serves (F .fits) l k m r ≡ meetsRow (F .fits) (members l k) m r
+  row-whole m r within =
+      ap (λ b. not b || F .fits m (inClass l k) (r .test)) (sym (bit-members k l (r .term) (within .0)))
+      ∙ ap (λ b. not (bit (members l k) (r .term)) || b)
+      (F .looks m (inClass l k) (bit (members l k)) (r .test) (every-map (λ d. d < length l) (λ d. inClass l k d ≡ bit (members l k) d) (λ d lt. sym (bit-members k l d lt)) (F .names (r .test)) (within .1)))
 
-  rows-whole : (m : ℕ) (rows : List (Row Test)) → T (allRows (rowDeclared (length l) sets) rows) → allRows (serves fits l k m) rows ≡ allRows (meetsRow (members l k) m) rows
-  rows-whole m [] declared = refl
-  rows-whole m (r ∷ rs) declared = cc (
-    row-whole m r (and-left (rowDeclared (length l) sets r) (allRows (rowDeclared (length l) sets) rs) declared),
-    rows-whole m rs (and-right (rowDeclared (length l) sets r) (allRows (rowDeclared (length l) sets) rs) declared),
-  )
-
-  pub mask-whole : (bound : ℕ) (rows : List (Row Test)) → T (allRows (rowDeclared (length l) sets) rows) → smallestMask fits bound rows l k ≡ leastMask bound rows (members l k)
+  pub mask-whole : (bound : ℕ) (rows : List (Row Test)) → Every (Within F (length l)) rows → smallestMask (F .fits) bound rows l k ≡ leastMask (F .fits) bound rows (members l k)
   unfolding smallestMask leastMask
-  mask-whole bound rows declared = ap (firstFrom bound 0) (fun-ext (λ m. ap (λ b. cond b (some m) none) (rows-whole m rows declared)))
+  mask-whole bound rows within = ap (firstPassing bound) (fun-ext (λ m. all-same (Within F (length l)) (serves (F .fits) l k m) (meetsRow (F .fits) (members l k) m) (row-whole m) rows within))

@@ -1,5 +1,6 @@
 -- What the laws speak of.
 pub mod Members
-pub mod Others
+pub mod Asked
+pub mod Families
 pub mod Behind
 pub mod Standings

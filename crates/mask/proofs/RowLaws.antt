@@ -2,12 +2,10 @@
 use Prim.Native.Nat.{ℕ, zero, suc, _≤_}
 use mathlib.Core.Path.{_≡_}
 use mathlib.Core.Logic.{_≢_}
-use mathlib.Core.List.{[], _∷_}
 use native.Mathlib.Omega.{arith}
 use lib.ListN.{List·getD-eq-default}
-use Rattle.theory.specs.Sets.{IsSame, IsNotSame, IsIn, IsNotIn, ExactlyIfIn, ExactlyIfNotIn, ExactlyIfSame, ExactlyIfOr, ExactlyIfAnd, ExactlyIfAndNot}
+use Rattle.theory.specs.Sets.{IsSame, testsOf, testOf}
 use Rattle.row.specs.Parts.{partsOf}
-use Rattle.row.specs.Rows.{testOf}
 use Rattle.mask.specs.Tests.{PlacesAreBits}
 
 -- the parts of any number have places that are bits
@@ -26,7 +24,4 @@ none-of (suc n) k h = let ne : k ≢ n = h .1 in omega (arith, none-of n k (h .0
 
 -- a kind above 9 says that the terms are the same
 pub past-kinds : (k x y z : ℕ) → NoneOf 10 k → testOf k x y z ≡ IsSame x
-past-kinds k x y z h =
-    List·getD-eq-default
-    (IsSame x ∷ IsNotSame x ∷ IsIn x ∷ IsNotIn x ∷ ExactlyIfIn x y ∷ ExactlyIfNotIn x y ∷ ExactlyIfSame x y ∷ ExactlyIfOr x y z ∷ ExactlyIfAnd x y z ∷ ExactlyIfAndNot x y z ∷ [])
-    (IsSame x) {n = k} (none-of 10 k h)
+past-kinds k x y z h = List·getD-eq-default (testsOf x y z) (IsSame x) {n = k} (none-of 10 k h)

@@ -11,7 +11,7 @@ use Rattle.question.specs.Masks.{bit}
 use Rattle.theory.specs.Rules.{Row}
 use Rattle.theory.specs.Sets.{Test}
 use Rattle.theory.specs.Solutions.{allRows}
-use Rattle.theory.proofs.RuleLaws.{all-append}
+use Rattle.theory.proofs.ListLaws.{all-append}
 use Rattle.mask.specs.Least.{meetsRow}
 use Rattle.mask.specs.Entries.{testIn, termsIn, rowsOfEntry, rowsOfEntries}
 use Rattle.mask.specs.Walks.{meetsEntry, MeetsBefore}

@@ -2,21 +2,20 @@
 use Prim.Native.Nat.{ℕ, _≤_, min}
 use mathlib.Core.Path.{_≡_}
 use mathlib.Core.Bool.{Bool}
+use mathlib.Core.List.{List, [], _∷_}
+use Rattle.question.specs.Limits.{maxSets}
 use Rattle.question.specs.Masks.{bit}
-use Rattle.theory.specs.Sets.{Test, IsSame, IsNotSame, IsIn, IsNotIn, ExactlyIfIn, ExactlyIfNotIn, ExactlyIfSame, ExactlyIfOr, ExactlyIfAnd, ExactlyIfAndNot, fits}
+use Rattle.theory.specs.Sets.{Test, fits, placesOf, setsAmong}
 
--- the lowest set that a test names, or 16 where it names none
+-- the lowest of some numbers, or `maxSets` where there are none
+abbrev pub lowestOf : List ℕ → ℕ
+lowestOf [] = maxSets
+lowestOf (x ∷ []) = x
+lowestOf (x ∷ y ∷ ys) = min x (lowestOf (y ∷ ys))
+
+-- the lowest set that a test names, or `maxSets` where it names none
 unfoldable pub lowestSet : Test → ℕ
-lowestSet (IsSame d) = 16
-lowestSet (IsNotSame d) = 16
-lowestSet (IsIn x) = x
-lowestSet (IsNotIn x) = x
-lowestSet (ExactlyIfIn x y) = min x y
-lowestSet (ExactlyIfNotIn x y) = min x y
-lowestSet (ExactlyIfSame x a) = x
-lowestSet (ExactlyIfOr x y z) = min x (min y z)
-lowestSet (ExactlyIfAnd x y z) = min x (min y z)
-lowestSet (ExactlyIfAndNot x y z) = min x (min y z)
+lowestSet t = lowestOf (setsAmong (placesOf t))
 
 -- two masks have the same bits from q on
 abbrev pub SameFrom : ℕ → ℕ → ℕ → Type 0

@@ -1,16 +1,17 @@
 -- A declared row packs to a good number, and the number says the row again.
 use Prim.Native.Nat.{ℕ, _^_, _≤_, _<_}
-use mathlib.Core.Path.{_≡_, refl, ap, _∙_}
+use mathlib.Core.Path.{_≡_, ap, _∙_}
 use mathlib.Core.Bool.{Bool, true, false, _&&_}
 use native.Mathlib.Omega.{arith}
 use lib.Dec.{T, ltb, ltb→lt, lt→ltb}
 use Rattle.question.specs.Limits.{maxTerms, maxSets}
 use Rattle.question.proofs.TestLaws.{true-T, and-left, and-right, and-both}
 use Rattle.theory.specs.Rules.{Row}
-use Rattle.theory.specs.Sets.{Test, IsSame, IsNotSame, IsIn, IsNotIn, ExactlyIfIn, ExactlyIfNotIn, ExactlyIfSame, ExactlyIfOr, ExactlyIfAnd, ExactlyIfAndNot, placesOf, placesDeclared, rowDeclared}
+use Rattle.theory.specs.Sets.{Test, IsSame, IsNotSame, IsIn, IsNotIn, ExactlyIfIn, ExactlyIfNotIn, ExactlyIfSame, ExactlyIfOr, ExactlyIfAnd, ExactlyIfAndNot, placesOf, kindOf, placesDeclared, rowDeclared}
+use Rattle.theory.proofs.PlaceLaws.{test-again}
 use Rattle.row.specs.declared.parts.RowParts.{RowParts}
 use Rattle.row.specs.Parts.{placeBits, termBits, rowBits, packed, partsOf}
-use Rattle.row.specs.Rows.{kindOf, placeAt, partsOfRow, packRow, testOf, rowOfParts, rowOf}
+use Rattle.row.specs.Rows.{placeAt, partsOfRow, packRow, rowOfParts, rowOf}
 use Rattle.row.specs.Checks.{placesGood, rowGood}
 use Rattle.row.proofs.RoundTrips.{unpacked}
 use Rattle.row.proofs.GoodRows.{Good}
@@ -72,19 +73,6 @@ module _ (terms sets : ℕ) (few-terms : terms ≤ maxTerms) (few-sets : sets �
   kind-small (ExactlyIfOr x y z) = omega arith
   kind-small (ExactlyIfAnd x y z) = omega arith
   kind-small (ExactlyIfAndNot x y z) = omega arith
-
-  -- the row that a kind and its places say
-  test-again : (t : Test) → testOf (kindOf t) (placeAt t 0) (placeAt t 1) (placeAt t 2) ≡ t
-  test-again (IsSame d) = refl
-  test-again (IsNotSame d) = refl
-  test-again (IsIn x) = refl
-  test-again (IsNotIn x) = refl
-  test-again (ExactlyIfIn x y) = refl
-  test-again (ExactlyIfNotIn x y) = refl
-  test-again (ExactlyIfSame x a) = refl
-  test-again (ExactlyIfOr x y z) = refl
-  test-again (ExactlyIfAnd x y z) = refl
-  test-again (ExactlyIfAndNot x y z) = refl
 
   packed-small : (p : RowParts) → packed p < 2 ^ rowBits
   unfolding packed

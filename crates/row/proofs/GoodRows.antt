@@ -5,10 +5,10 @@ use mathlib.Core.Bool.{Bool, true, false, _&&_}
 use lib.Dec.{T, eqb, ltb, ltb→lt, eqb→eq}
 use lib.ListN.{getD}
 use Rattle.question.proofs.TestLaws.{T-true, and-left, and-right, and-both}
-use Rattle.theory.specs.Sets.{placesOf, placesDeclared, rowDeclared}
+use Rattle.theory.specs.Sets.{placesOf, testOf, placesDeclared, rowDeclared}
 use Rattle.row.specs.declared.parts.RowParts.{RowParts}
 use Rattle.row.specs.Parts.{rowBits, packed, partsOf}
-use Rattle.row.specs.Rows.{partsOfRow, packRow, testOf, rowOfParts, rowOf}
+use Rattle.row.specs.Rows.{partsOfRow, packRow, rowOfParts, rowOf}
 use Rattle.row.specs.Checks.{goodByKind, placesGood, rowGood}
 use Rattle.row.proofs.RoundTrips.{packed-again}
 

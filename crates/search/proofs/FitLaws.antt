@@ -15,10 +15,11 @@ use lib.Seq.{getD-set-same, getD-set-other}
 use Rattle.question.specs.Limits.{maxTerms}
 use Rattle.question.specs.Masks.{bit}
 use Rattle.question.proofs.TestLaws.{and-right}
+use Rattle.theory.specs.Sets.{fits}
 use Rattle.mask.specs.Entries.{rowsOfEntries}
 use Rattle.cut.specs.Members.{members}
-use Rattle.cut.specs.Others.{before}
-use Rattle.cut.proofs.OtherLaws.{before-past}
+use Rattle.cut.specs.Asked.{before}
+use Rattle.cut.proofs.AskedLaws.{before-past}
 use Rattle.cut.proofs.PartLaws.{part-known}
 use Rattle.cut.proofs.StandingLaws.{stand-known, none-found}
 use Rattle.search.specs.Placings.{Placing, GroupsOf, found}
@@ -63,7 +64,7 @@ module _ (entries : List ℕ) (sets others t n : ℕ) (lacks : bit others t ≡ 
 pub unfit-cut : {arrangement groups : List ℕ} {placed used : ℕ} → Placing arrangement placed used → GroupsOf arrangement placed groups → (entries : List ℕ) (sets others left : ℕ) →
     NothingFits entries sets others placed groups used (placed + left) → found entries sets arrangement placed left ≡ none
 unfit-cut {arrangement} {groups} {placed} {used} here of entries sets others left nothing =
-    none-found p groups used (here .counted) are (before others placed) first (2 ^ sets) (rowsOfEntries entries) left (subst (λ n. NothingFits entries sets others placed groups used (n + left)) (sym (placed-length here)) nothing)
+    none-found p groups used (here .counted) are (before others placed) first fits (2 ^ sets) (rowsOfEntries entries) left (subst (λ n. NothingFits entries sets others placed groups used (n + left)) (sym (placed-length here)) nothing)
   where
     p : List ℕ
     p = take placed arrangement

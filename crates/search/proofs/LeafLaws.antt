@@ -9,6 +9,7 @@ use lib.Dec.{T}
 use lib.ListN.{length, getD, take, set}
 use lib.Seq.{ext-getD, getD-take, length-take-le, getD-set-same, getD-set-other}
 use Rattle.question.specs.Limits.{maxTerms}
+use Rattle.theory.specs.Lists.{Every}
 use Rattle.theory.specs.Arrangements.{classes}
 use Rattle.theory.specs.Searches.{eachFrom}
 use Rattle.theory.specs.Solutions.{withMasks, allRows}
@@ -17,7 +18,9 @@ use Rattle.theory.specs.Sets.{fits, rowDeclared}
 use Rattle.theory.proofs.SearchLaws.{EachIs, eachFrom-is}
 use Rattle.mask.specs.Entries.{rowsOfEntries}
 use Rattle.cut.specs.Members.{members}
+use Rattle.cut.specs.Families.{Within}
 use Rattle.cut.proofs.WholeLaws.{mask-whole}
+use Rattle.cut.proofs.SetLaws.{setTests, declared-within}
 use Rattle.search.specs.declared.answers.Verdict.the-variants.{Possible, Impossible}
 use Rattle.search.specs.declared.answers.SearchAnswer.{SearchAnswer}
 use Rattle.search.specs.Answers.{withoutModel, answerOf}
@@ -59,7 +62,7 @@ module _ (entries : List ℕ) (sets : ℕ) (arrangement : List ℕ) (terms used 
   l = take terms arrangement
 
   smallest-is : (k : ℕ) → smallest entries sets l k ≡ maskOfClass entries sets (members l k)
-  smallest-is k = mask-whole l k sets (2 ^ sets) (rowsOfEntries entries) (subst (λ n. T (allRows (rowDeclared n sets) (rowsOfEntries entries))) (sym (placed-length here)) declared)
+  smallest-is k = mask-whole setTests l k (2 ^ sets) (rowsOfEntries entries) (subst (λ n. Every (Within setTests n) (rowsOfEntries entries)) (sym (placed-length here)) (declared-within terms sets (rowsOfEntries entries) declared))
 
   module _ (k class : ℕ) (is : class ≡ members l k) where
     -- a class has none

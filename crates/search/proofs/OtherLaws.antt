@@ -14,28 +14,28 @@ use Rattle.question.proofs.TestLaws.{T-true, true-T}
 use Rattle.theory.specs.Rules.{Row}
 use Rattle.theory.specs.Sets.{Test}
 use Rattle.theory.specs.Solutions.{allRows}
-use Rattle.theory.proofs.RuleLaws.{all-append}
+use Rattle.theory.proofs.ListLaws.{all-append}
 use Rattle.mask.specs.Entries.{testIn, termsIn, rowsOfEntry, rowsOfEntries}
 use Rattle.mask.proofs.BitLaws.{or-left, or-right}
 use Rattle.mask.proofs.EntryLaws.{entry-pass}
-use Rattle.cut.specs.Others.{otherKnown, othersKnown}
-use Rattle.cut.proofs.OtherLaws.{known-more}
+use Rattle.cut.specs.Asked.{asks, askedKnown, allAskedKnown}
+use Rattle.cut.proofs.AskedLaws.{known-more}
 
 module _ (entries : List ℕ) where
   -- the set is enough for the rows before i: where its terms are known, and what the other rows ask for, all is
   abbrev pub Enough : ℕ → ℕ → Type 0
-  Enough others i = (known : ℕ → Bool) → ((d : ℕ) → T (bit others d) → T (known d)) → T (othersKnown known (rowsOfEntries (drop i entries))) → T (othersKnown known (rowsOfEntries entries))
+  Enough others i = (known : ℕ → Bool) → ((d : ℕ) → T (bit others d) → T (known d)) → T (allAskedKnown asks known (rowsOfEntries (drop i entries))) → T (allAskedKnown asks known (rowsOfEntries entries))
 
   pub enough-start : Enough 0 0
   enough-start known sub h = h
 
-  pub enough-turn : (others i one : ℕ) → i < length entries → ((c : ℕ) → T (bit (termsIn (getD entries i 0)) c) → T (otherKnown (bit one) c (testIn (getD entries i 0)))) → Enough others i → Enough (bitOr others one) (i + 1)
+  pub enough-turn : (others i one : ℕ) → i < length entries → ((c : ℕ) → T (bit (termsIn (getD entries i 0)) c) → T (askedKnown asks (bit one) c (testIn (getD entries i 0)))) → Enough others i → Enough (bitOr others one) (i + 1)
   enough-turn others i one inside this before known sub h =
       let e = getD entries i 0 in
-      let f : Row Test → Bool = λ r. otherKnown known (r .term) (r .test) in
+      let f : Row Test → Bool = λ r. askedKnown asks known (r .term) (r .test) in
       let in-one : (d : ℕ) → T (bit one d) → T (known d) = λ d b. sub d (T-true (or-right others one d (true-T (bit one d) b))) in
-      let these : allRows f (rowsOfEntry e) ≡ true = entry-pass f e (λ c b. true-T (otherKnown known c (testIn e)) (known-more (bit one) known in-one c (testIn e) (this c (T-true b)))) in
+      let these : allRows f (rowsOfEntry e) ≡ true = entry-pass f e (λ c b. true-T (askedKnown asks known c (testIn e)) (known-more asks (bit one) known in-one c (testIn e) (this c (T-true b)))) in
       before known (λ d b. sub d (T-true (or-left others one d (true-T (bit others d) b)))) (rw (drop-cons entries i 0 inside, all-append f (rowsOfEntry e) (rowsOfEntries (drop (suc i) entries)), these) (rw add-one at h))
 
-  pub enough-end : (others i : ℕ) → length entries ≤ i → Enough others i → T (othersKnown (bit others) (rowsOfEntries entries))
+  pub enough-end : (others i : ℕ) → length entries ≤ i → Enough others i → T (allAskedKnown asks (bit others) (rowsOfEntries entries))
   enough-end others i past before = before (bit others) (λ d b. b) (rw (drop-of-length-le entries {i = i} past) tt)

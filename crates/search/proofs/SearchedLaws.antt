@@ -27,7 +27,7 @@ use Rattle.search.specs.Placings.{found}
 
 -- with no term placed, what is found is the first model
 pub answer-first : (terms sets : ℕ) (entries : List ℕ) (r : SearchAnswer) → r ≡ answerOf (found entries sets (padded []) 0 terms) → r ≡ answerOf (firstModel fits terms (2 ^ sets) (rowsOfEntries entries))
-answer-first terms sets entries r is = is ∙ ap answerOf (behind-nothing (2 ^ sets) (rowsOfEntries entries) terms)
+answer-first terms sets entries r is = is ∙ ap answerOf (behind-nothing fits (2 ^ sets) (rowsOfEntries entries) terms)
 
 module _ (terms sets : ℕ) (rows : List ℕ) where
   -- the rows that the numbers say, and what is found: the first model of those

@@ -42,7 +42,7 @@ none-left placed left e = omega arith
 module _ (entries : List ℕ) (sets : ℕ) (arrangement : List ℕ) (placed left used : ℕ) where
   -- what is found with the next term in the class c
   abbrev pub foundIn : ℕ → Option Solution
-  foundIn c = foundBehind (2 ^ sets) (rowsOfEntries entries) (take placed arrangement ++ (c ∷ [])) (left - 1)
+  foundIn c = foundBehind fits (2 ^ sets) (rowsOfEntries entries) (take placed arrangement ++ (c ∷ [])) (left - 1)
 
   -- the loop stands before the class c: what is found is what is found from there on
   abbrev pub Before : ℕ → Type 0
@@ -55,17 +55,17 @@ module _ (entries : List ℕ) (sets : ℕ) (arrangement : List ℕ) (placed left
 
   -- no term is left: the model of the arrangement
   pub answer-whole : (r : SearchAnswer) → left ≡ 0 → r ≡ answerOf (modelOf fits (2 ^ sets) (rowsOfEntries entries) (take placed arrangement)) → r ≡ answerOf (found entries sets arrangement placed left)
-  answer-whole r e is = is ∙ ap answerOf (sym (ap (found entries sets arrangement placed) e ∙ behind-all (2 ^ sets) (rowsOfEntries entries) (take placed arrangement)))
+  answer-whole r e is = is ∙ ap answerOf (sym (ap (found entries sets arrangement placed) e ∙ behind-all fits (2 ^ sets) (rowsOfEntries entries) (take placed arrangement)))
 
   module _ (here : Placing arrangement placed used) where
     pub before-first : 0 < left → Before 0
     before-first more = let e : left ≡ suc (left - 1) = omega arith in
         loop-start (suc used) foundIn (found entries sets arrangement placed left) (ap (found entries sets arrangement placed) e
-        ∙ behind-step (2 ^ sets) (rowsOfEntries entries) (take placed arrangement) (left - 1) ∙ ap (λ u. firstFrom (suc u) 0 foundIn) (sym (here .counted)))
+        ∙ behind-step fits (2 ^ sets) (rowsOfEntries entries) (take placed arrangement) (left - 1) ∙ ap (λ u. firstFrom (suc u) 0 foundIn) (sym (here .counted)))
 
     -- the call with the next term in the class c is about that
     pub answer-next : (c : ℕ) (r : SearchAnswer) → placed < maxTerms → r ≡ answerOf (found entries sets (set arrangement placed c) (placed + 1) (left - 1)) → r ≡ answerOf (foundIn c)
-    answer-next c r room is = is ∙ ap (λ p. answerOf (foundBehind (2 ^ sets) (rowsOfEntries entries) p (left - 1))) (next-taken here c room)
+    answer-next c r room is = is ∙ ap (λ p. answerOf (foundBehind fits (2 ^ sets) (rowsOfEntries entries) p (left - 1))) (next-taken here c room)
 
   module _ (c : ℕ) (r : SearchAnswer) (allowed : c ≤ used) (is : r ≡ answerOf (foundIn c)) (before : Before c) (possible : Bool) (told : possible ≡ isPossible (r .verdict)) where
     -- it found a model

@@ -5,8 +5,9 @@ use mathlib.Core.List.{List}
 use mathlib.Core.Option.{none}
 use lib.Dec.{T}
 use lib.ListN.{getD}
+use Rattle.theory.specs.Sets.{fits}
 use Rattle.mask.specs.Entries.{rowsOfEntries}
-use Rattle.cut.specs.Others.{othersKnown, before}
+use Rattle.cut.specs.Asked.{asks, allAskedKnown, before}
 use Rattle.cut.specs.Standings.{NonePart, NoneStands}
 use Rattle.search.specs.Memos.{maskOfClass, classCount}
 
@@ -20,12 +21,12 @@ SomeLacks entries sets groups used = (k : ℕ) × (k < used) × (maskOfClass ent
 
 -- the set `others` has the terms that rows ask for, and they are among so many
 abbrev pub OthersAre : List ℕ → ℕ → ℕ → Type 0
-OthersAre entries others terms = T (othersKnown (before others terms) (rowsOfEntries entries))
+OthersAre entries others terms = T (allAskedKnown asks (before others terms) (rowsOfEntries entries))
 
 -- where the set has the others before t, no arrangement of so many terms, of a class of which it is a part, has a model
 abbrev pub NoPart : List ℕ → ℕ → ℕ → ℕ → ℕ → ℕ → Type 0
-NoPart entries sets others t set terms = NonePart (2 ^ sets) (rowsOfEntries entries) (before others t) set terms
+NoPart entries sets others t set terms = NonePart fits (2 ^ sets) (rowsOfEntries entries) (before others t) set terms
 
 -- where the sets have the others before t, no arrangement of so many terms, for classes of which they stand, has a model
 abbrev pub NothingFits : List ℕ → ℕ → ℕ → ℕ → List ℕ → ℕ → ℕ → Type 0
-NothingFits entries sets others t groups used terms = NoneStands (2 ^ sets) (rowsOfEntries entries) (before others t) groups used terms
+NothingFits entries sets others t groups used terms = NoneStands fits (2 ^ sets) (rowsOfEntries entries) (before others t) groups used terms

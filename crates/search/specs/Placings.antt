@@ -7,6 +7,7 @@ use lib.ListN.{length, getD, take, drop, replicate}
 use Rattle.question.specs.Limits.{maxTerms}
 use Rattle.theory.specs.Arrangements.{classes}
 use Rattle.theory.specs.Solutions.{Solution}
+use Rattle.theory.specs.Sets.{fits}
 use Rattle.mask.specs.Entries.{rowsOfEntries}
 use Rattle.cut.specs.Members.{members}
 use Rattle.cut.specs.Behind.{foundBehind}
@@ -26,4 +27,4 @@ pub record GroupsOf (arrangement : List ℕ) (placed : ℕ) (groups : List ℕ) 
 
 -- what is found there with so many terms still to be placed: the first model among the arrangements that begin so
 abbrev pub found : List ℕ → ℕ → List ℕ → ℕ → ℕ → Option Solution
-found entries sets arrangement placed left = foundBehind (2 ^ sets) (rowsOfEntries entries) (take placed arrangement) left
+found entries sets arrangement placed left = foundBehind fits (2 ^ sets) (rowsOfEntries entries) (take placed arrangement) left

@@ -6,7 +6,7 @@ ghost use Prim.Native.Nat.{ℕ, _<_};
 ghost use lib.Dec.{T, eqb};
 ghost use Rattle.question.specs.Masks.{bit};
 ghost use Rattle.mask.specs.Entries.{testIn, termsIn, rowsOfEntries};
-ghost use Rattle.cut.specs.Others.{otherKnown, othersKnown};
+ghost use Rattle.cut.specs.Asked.{asks, askedKnown, allAskedKnown};
 
 // A set with d, if there is another term than d among those that ask for it.
 fn asked_besides(terms: u32, d: u8) -> u32
@@ -19,7 +19,7 @@ fn asked_besides(terms: u32, d: u8) -> u32
 
 // A set with the term that the rows of the entry ask for, if they ask for one. A kind above 9 is read as kind 0.
 fn other_asked(entry: u64) -> u32
-    ensures { λ r. ⌜ ((c : ℕ) → T (bit (termsIn entry) c) → T (otherKnown (bit r) c (testIn entry))) ⌝ }
+    ensures { λ r. ⌜ ((c : ℕ) → T (bit (termsIn entry) c) → T (askedKnown asks (bit r) c (testIn entry))) ⌝ }
 {
     let terms = ((entry >> 32) % 65536) as u32;
     let p = unpack((entry % 4294967296) as u32);
@@ -41,7 +41,7 @@ fn other_asked(entry: u64) -> u32
 
 // A set with those of all rows.
 pub(crate) fn others_asked(entries: &[u64]) -> u32
-    ensures { λ r. ⌜ T (othersKnown (bit r) (rowsOfEntries (now (entries .entry)))) ⌝ }
+    ensures { λ r. ⌜ T (allAskedKnown asks (bit r) (rowsOfEntries (now (entries .entry)))) ⌝ }
 {
     let mut others: u32 = 0;
     let mut i: usize = 0;

@@ -7,7 +7,7 @@ use Rattle.outcome.specs.declared.checks.Check.the-variants.{Accepted}
 use Rattle.question.specs.Questions.{statements, witness, witnesses, termsOf}
 use Rattle.question.specs.Admissions.{admission}
 use Rattle.question.specs.Checks.{statementsChecked, checked}
-use Rattle.theory.specs.Searches.{firstFrom, firstPlacing, eachFrom}
+use Rattle.theory.specs.Searches.{firstFrom, firstPlacing, eachFrom, firstPassing}
 use Rattle.theory.specs.Solutions.{Solution}
 use Rattle.theory.specs.FirstModels.{smallestMask, modelOf, firstModel}
 use Rattle.theory.specs.Reduction.{rowList}
@@ -22,5 +22,5 @@ abbrev wanted : Case → Check × Option Solution
 wanted c = (Accepted, c .answers)
 
 pub cases-answered : map found cases ≡ map wanted cases
-unfolding checked statementsChecked admission statements witness witnesses termsOf answer rowList firstModel modelOf smallestMask firstPlacing firstFrom eachFrom
+unfolding checked statementsChecked admission statements witness witnesses termsOf answer rowList firstModel modelOf smallestMask firstPlacing firstFrom eachFrom firstPassing
 cases-answered = refl

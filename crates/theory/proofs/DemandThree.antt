@@ -13,6 +13,7 @@ use Rattle.question.specs.Questions.{statements, termsOf}
 use Rattle.question.specs.Checks.{IsAccepted}
 use Rattle.question.specs.Masks.{bit}
 use Rattle.question.specs.Meaning.{Assignment, IsAssignment, AllHold}
+use Rattle.theory.specs.Lists.{Every}
 use Rattle.theory.specs.Arrangements.{classes}
 use Rattle.theory.specs.Patterns.{patternOf}
 use Rattle.theory.specs.Rules.{Rule, rowsOfRules}
@@ -22,7 +23,8 @@ use Rattle.theory.specs.Reduction.{rule, rowList}
 use Rattle.theory.specs.Answers.{maskBound, Solves, asModel}
 use Rattle.theory.specs.Possible.{elementOf, Possible, Solvable}
 use Rattle.theory.proofs.ArrangementLaws.{class-below}
-use Rattle.theory.proofs.RuleLaws.{EveryRow, all-every, ownWitnesses}
+use Rattle.theory.proofs.ListLaws.{all-every}
+use Rattle.theory.proofs.RuleLaws.{ownWitnesses}
 use Rattle.theory.proofs.ModelLaws.{MaskModel, RulesMet, solution-meets}
 use Rattle.theory.proofs.ReductionLaws.{Solved, met-solved}
 use Rattle.theory.proofs.PlaceLaws.{passes-local, Named, rules-named, rules-witnesses}
@@ -74,7 +76,7 @@ module _ (q : Question) (accepted : IsAccepted q) where
   model-holds sol s = holds-met (asModel sol) (maskOf (sol .masks)) E S (λ d x lt. refl) (statements q) (accepted .all-declared) .1
       (solution-meets fits sol (s .arranged) E (rulesOf q) (omega (arith, s .each-term, terms-are q)) rows)
     where
-      rows : EveryRow (λ r. T (met fits (sol .arrangement) (sol .masks) r)) (rowsOfRules (length (sol .arrangement)) E (rulesOf q))
+      rows : Every (λ r. T (met fits (sol .arrangement) (sol .masks) r)) (rowsOfRules (length (sol .arrangement)) E (rulesOf q))
       rows = all-every (met fits (sol .arrangement) (sol .masks)) (rowsOfRules (length (sol .arrangement)) E (rulesOf q)) (rw (s .each-term) (s .rows-met))
 
   possible-solvable : (pattern : ℕ → ℕ → Bool) → Possible q pattern → Solvable q pattern

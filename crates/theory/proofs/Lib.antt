@@ -2,6 +2,8 @@
 -- DemandThree, AnswerLaws, RowListLaws and Cases say what the definitions are for; the others lead there or serve the code of other crates.
 pub mod CountLaws
 pub mod DigitLaws
+pub mod BitLaws
+pub mod ListLaws
 pub mod ArrangementLaws
 pub mod SearchLaws
 pub mod LoopLaws
@@ -11,8 +13,8 @@ pub mod ModelLaws
 pub mod TermLaws
 pub mod ReductionLaws
 pub mod MaskLaws
+pub mod ClassLaws
 pub mod FirstModelLaws
-pub mod CutLaws
 pub mod SameRowLaws
 pub mod SameArrangementLaws
 pub mod AskedLaws

@@ -1,24 +1,26 @@
 -- Classes are independent: masks meet every row exactly if each serves its class. So the smallest masks class by class are the smallest together.
 use Prim.Native.Nat.{ℕ, _≤_, _<_}
 use mathlib.Core.Path.{_≡_, refl, sym, ap, subst, _∙_}
-use mathlib.Core.Bool.{Bool, true, false, not, _||_, cond}
+use mathlib.Core.Bool.{Bool, true, false, not, _||_}
 use mathlib.Core.List.{List, [], _∷_}
-use mathlib.Core.Option.{Option, none, some, Option·map, Option·none-ne-some, Option·some-ne-none}
+use mathlib.Core.Option.{Option, none, some, Option·map}
 use native.Mathlib.Omega.{arith}
 use native.Mathlib.Decide.{decLe}
 use borrow.Author.Tests.{eqb-true, eq-eqb}
 use lib.Dec.{T}
 use lib.ListN.{length}
 use lib.Seq.{ext-getD}
+use Rattle.theory.specs.Lists.{Every}
 use Rattle.theory.specs.Arrangements.{IsArrangement, classes, classOf, inClass}
-use Rattle.theory.specs.Searches.{firstFrom, eachFrom}
+use Rattle.theory.specs.Searches.{eachFrom}
 use Rattle.theory.specs.Rules.{Row}
 use Rattle.theory.specs.Solutions.{Solution, withMasks, maskOf, allRows, metBy, met, IsSolution}
 use Rattle.theory.specs.FirstModels.{serves, servesAll, smallestMask, modelOf, HasSmallest}
-use Rattle.question.proofs.TestLaws.{true-T}
+use Rattle.question.proofs.TestLaws.{T-true}
 use Rattle.theory.proofs.ArrangementLaws.{class-below}
-use Rattle.theory.proofs.SearchLaws.{FirstNumberIs, firstFrom-is, EachIs, eachFrom-is}
-use Rattle.theory.proofs.RuleLaws.{EveryRow, TermsBelow, all-every, every-all, all-map}
+use Rattle.theory.proofs.SearchLaws.{EachIs, eachFrom-is, SmallestIs, firstPassing-is}
+use Rattle.theory.proofs.ListLaws.{all-every, every-all, all-map}
+use Rattle.theory.proofs.RuleLaws.{TermsBelow}
 
 module _ {Test : Type 0} (fits : ℕ → (ℕ → Bool) → Test → Bool) where
   module _ (l ms : List ℕ) where
@@ -37,9 +39,9 @@ module _ {Test : Type 0} (fits : ℕ → (ℕ → Bool) → Test → Bool) where
     serves-row r h = subst (λ b. T (not b || met fits l ms r)) (eq-eqb (classOf l (r .term)) (classOf l (r .term)) refl) h
 
     abbrev Served : List (Row Test) → Type 0
-    Served rows = (k : ℕ) → k < classes l → EveryRow (λ r. T (serves fits l k (maskOf ms k) r)) rows
+    Served rows = (k : ℕ) → k < classes l → Every (λ r. T (serves fits l k (maskOf ms k) r)) rows
 
-    serves-rows : (rows : List (Row Test)) → TermsBelow (length l) rows → Served rows → EveryRow (λ r. T (met fits l ms r)) rows
+    serves-rows : (rows : List (Row Test)) → TermsBelow (length l) rows → Served rows → Every (λ r. T (met fits l ms r)) rows
     serves-rows [] below h = tt
     serves-rows (r ∷ rs) below h = (serves-row r (h (classOf l (r .term)) (class-below 0 l (r .term) (below .0)) .0), serves-rows rs (below .1) (λ k lt. h k lt .1))
 
@@ -48,34 +50,30 @@ module _ {Test : Type 0} (fits : ℕ → (ℕ → Bool) → Test → Bool) where
     serves-met rows below h = every-all (met fits l ms) rows (serves-rows rows below (λ k lt. all-every (serves fits l k (maskOf ms k)) rows (h k lt)))
 
   module _ (bound : ℕ) (rows : List (Row Test)) where
-    -- the smallest mask of a class, or no mask below the bound serves it
-    abbrev pub SmallestIs : List ℕ → ℕ → Option ℕ → Type 0
-    SmallestIs l k none = (m : ℕ) → m < bound → T (servesAll fits rows l k m) → ⊥
-    SmallestIs l k (some m) = (m < bound) × T (servesAll fits rows l k m) × ((i : ℕ) → T (servesAll fits rows l k i) → m ≤ i)
-
-    pub smallestMask-is : (l : List ℕ) (k : ℕ) → SmallestIs l k (smallestMask fits bound rows l k)
+    pub smallestMask-is : (l : List ℕ) (k : ℕ) → SmallestIs bound (servesAll fits rows l k) (smallestMask fits bound rows l k)
     unfolding smallestMask
-    smallestMask-is l k = go (firstFrom bound 0 try) (firstFrom-is bound 0 try)
+    smallestMask-is l k = firstPassing-is bound (servesAll fits rows l k)
+
+    -- masks found for each class are the smallest
+    module _ (l ms : List ℕ) (each : EachIs (classes l) 0 (smallestMask fits bound rows l) 0 (some ms)) where
+      each-smallest : (k : ℕ) → k < classes l → SmallestIs bound (servesAll fits rows l k) (some (maskOf ms k))
+      each-smallest k lt = subst (SmallestIs bound (servesAll fits rows l k)) (ap (smallestMask fits bound rows l) (omega arith) ∙ each .1 k lt) (smallestMask-is l k)
+
+      each-least : (k m : ℕ) → k < classes l → T (servesAll fits rows l k m) → maskOf ms k ≤ m
+      each-least k m lt s = go (decLe (maskOf ms k) m)
+        where
+          go : Dec (maskOf ms k ≤ m) → maskOf ms k ≤ m
+          go (yes q) = q
+          go (no q) = absurd (subst T (each-smallest k lt .2 m (omega arith)) s)
+
+    -- an arrangement with a class that no mask serves has no model
+    pub no-model : (l : List ℕ) (k : ℕ) → k < classes l → ((m : ℕ) → m < bound → T (servesAll fits rows l k m) → ⊥) → modelOf fits bound rows l ≡ none
+    unfolding modelOf
+    no-model l k lt no-mask = go (eachFrom (classes l) 0 (smallestMask fits bound rows l)) (eachFrom-is (classes l) 0 (smallestMask fits bound rows l) 0)
       where
-        try : ℕ → Option ℕ
-        try m = cond (servesAll fits rows l k m) (some m) none
-
-        fails : (m : ℕ) → try m ≡ none → T (servesAll fits rows l k m) → ⊥
-        fails m e h = Option·some-ne-none m (subst (λ b. cond b (some m) none ≡ none) (true-T (servesAll fits rows l k m) h) e)
-
-        passed : (m n : ℕ) (b : Bool) → cond b (some m) none ≡ some n → T b × (m ≡ n)
-        passed m n true e = (tt, cc)
-        passed m n false e = absurd (Option·none-ne-some n e)
-
-        least : (m i : ℕ) → ((j : ℕ) → 0 ≤ j → j < m → try j ≡ none) → T (servesAll fits rows l k i) → Dec (m ≤ i) → m ≤ i
-        least m i h s (yes q) = q
-        least m i h s (no q) = absurd (fails i (h i (omega arith) (omega arith)) s)
-
-        go : (o : Option ℕ) → FirstNumberIs bound 0 try o → SmallestIs l k o
-        go none h = λ m lt. fails m (h m (omega arith) (omega arith))
-        go (some m) h = let p = passed (h .at) m (servesAll fits rows l k (h .at)) (h .gives) in
-            let e : h .at ≡ m = p .1 in
-            (omega arith, subst (λ j. T (servesAll fits rows l k j)) e (p .0), λ i s. least m i (λ j low lt. h .none-before j low (omega arith)) s (decLe m i))
+        go : (o : Option (List ℕ)) → EachIs (classes l) 0 (smallestMask fits bound rows l) 0 o → Option·map (withMasks l) o ≡ none
+        go none h = refl
+        go (some ms) h = let s = each-smallest l ms h k lt in absurd (no-mask (maskOf ms k) (s .0) (T-true (s .1)))
 
     module _ (terms : ℕ) where
       -- the model of an arrangement: its solution with the smallest masks, or it has no solution
@@ -90,23 +88,17 @@ module _ {Test : Type 0} (fits : ℕ → (ℕ → Bool) → Test → Bool) where
           each : ℕ → Option ℕ
           each = smallestMask fits bound rows l
 
-          is : (k : ℕ) (o : Option ℕ) → each k ≡ o → SmallestIs l k o
-          is k o e = subst (SmallestIs l k) e (smallestMask-is l k)
-
           go : (o : Option (List ℕ)) → EachIs (classes l) 0 each 0 o → ModelIs l (Option·map (withMasks l) o)
-          go none h = λ ms s. is (h .0) none (h .3) (maskOf ms (h .0)) (s .masks-below (h .0) (omega arith)) (met-serves l ms rows (s .rows-met) (h .0))
-          go (some ms) h = (refl, solved, λ k m lt low s. has k lt .2 m s)
+          go none h = λ ms s. subst T (subst (SmallestIs bound (servesAll fits rows l (h .0))) (h .3) (smallestMask-is l (h .0)) (maskOf ms (h .0)) (s .masks-below (h .0) (omega arith))) (met-serves l ms rows (s .rows-met) (h .0))
+          go (some ms) h = (refl, solved, λ k m lt low s. each-least l ms h k m lt s)
             where
-              has : (k : ℕ) → k < classes l → SmallestIs l k (some (maskOf ms k))
-              has k lt = is k (some (maskOf ms k)) (ap each (omega arith) ∙ h .1 k lt)
-
               solved : IsSolution fits terms bound rows (withMasks l ms)
               solved = record {
                 arranged = arranged;
                 each-term = long;
                 each-class = h .0;
-                masks-below = λ k lt. has k lt .0;
-                rows-met = serves-met l ms rows (subst (λ n. TermsBelow n rows) (sym long) below) (λ k lt. has k lt .1);
+                masks-below = λ k lt. each-smallest l ms h k lt .0;
+                rows-met = serves-met l ms rows (subst (λ n. TermsBelow n rows) (sym long) below) (λ k lt. T-true (each-smallest l ms h k lt .1));
               }
 
       -- of two solutions with the same arrangement, one with the smallest masks has none that is larger

@@ -1,11 +1,10 @@
 -- A statement holds in an assignment exactly if its rule is met in masks whose bits are the parts; and every assignment has such masks.
 use Prim.Native.Nat.{ℕ, _^_, _<_}
-use mathlib.Core.Path.{_≡_, refl, ap, subst, fun-ext, _∙_}
-use mathlib.Core.Bool.{Bool, true, false, not, Bool·beq, cond}
+use mathlib.Core.Path.{_≡_, refl, ap, subst, fun-ext}
+use mathlib.Core.Bool.{Bool, true, false, not, Bool·beq}
 use mathlib.Core.List.{List, [], _∷_, map}
 use mathlib.Core.Logic.{_↔_}
-use native.Mathlib.Omega.{arith}
-use lib.Dec.{T, eqb}
+use lib.Dec.{T}
 use Rattle.question.specs.declared.statements.Statement.{Statement}
 use Rattle.question.specs.declared.statements.Statement.the-variants.{ElementsEqual, ElementsDiffer, In, NotIn, SetsEqual, SetsDiffer, Empty, Single, Union, Intersection, Difference}
 use Rattle.question.specs.declared.admissions.NameTest.the-variants.{Declared}
@@ -17,7 +16,7 @@ use Rattle.theory.specs.Sets.{passes, fits}
 use Rattle.theory.specs.Reduction.{rule}
 use Rattle.theory.specs.Possible.{elementOf}
 use Rattle.theory.proofs.ModelLaws.{MaskModel, RuleMet, RulesMet}
-use Rattle.theory.proofs.DigitLaws.{number, number-below, number-digit}
+use Rattle.theory.proofs.BitLaws.{ofBits, ofBits-below, ofBits-bit}
 use Rattle.theory.proofs.AskedLaws.{asked, asked-is-met}
 use Rattle.theory.proofs.PlaceLaws.{passes-local, Named, rule-named}
 
@@ -63,27 +62,14 @@ module _ (A : Assignment) where
     holds-met (s ∷ ss) nm = let one = one-met s (nm .0) in let rest = holds-met ss (nm .1) in (λ h. (one .0 (h .0), rest .0 (h .1)), λ h. (one .1 (h .0), rest .1 (h .1)))
 
 -- the mask of a domain element: bit x says whether it is in the set x
-flag : Bool → ℕ
-flag b = cond b 1 0
-
-flag-below : (b : Bool) → flag b < 2
-unfolding flag
-flag-below true = omega arith
-flag-below false = omega arith
-
-flag-back : (b : Bool) → eqb (flag b) 1 ≡ b
-unfolding flag
-flag-back true = refl
-flag-back false = refl
-
 module _ (S : ℕ) (A : Assignment) where
   pub elementMask : ℕ → ℕ
-  elementMask d = number 2 S (λ x. flag (partOf A x d))
+  elementMask d = ofBits S (λ x. partOf A x d)
 
   pub mask-below : (d : ℕ) → elementMask d < 2 ^ S
   unfolding elementMask
-  mask-below d = number-below 2 S (λ x. flag (partOf A x d)) (λ x. flag-below (partOf A x d))
+  mask-below d = ofBits-below S (λ x. partOf A x d)
 
   pub mask-bits : (d x : ℕ) → x < S → bit (elementMask d) x ≡ partOf A x d
   unfolding elementMask
-  mask-bits d x lt = ap (λ k. eqb k 1) (number-digit 2 S (λ x. flag (partOf A x d)) (λ x. flag-below (partOf A x d)) x lt) ∙ flag-back (partOf A x d)
+  mask-bits d x lt = ofBits-bit S (λ x. partOf A x d) x lt

@@ -12,23 +12,21 @@ use Rattle.question.specs.Statements.{Name, element, set as setName, namesOf}
 use Rattle.question.specs.Questions.{witness, witnesses}
 use Rattle.question.specs.Admissions.{declared, leftmost, nameTest}
 use Rattle.question.specs.Checks.{AllDeclared}
-use Rattle.theory.specs.Rules.{Rule, OneTerm, EachTerm, OwnWitness, ownWitness}
-use Rattle.theory.specs.Sets.{Test, IsSame, IsNotSame, IsIn, IsNotIn, ExactlyIfIn, ExactlyIfNotIn, ExactlyIfSame, ExactlyIfOr, ExactlyIfAnd, ExactlyIfAndNot, passes, Place, term, set, placesOf, placeDeclared, placesDeclared}
+use Rattle.theory.specs.Lists.{Every}
+use Rattle.theory.specs.Rules.{Row, Rule, OneTerm, EachTerm, OwnWitness, ownWitness}
+use Rattle.theory.specs.Sets.{Test, IsSame, IsNotSame, IsIn, IsNotIn, ExactlyIfIn, ExactlyIfNotIn, ExactlyIfSame, ExactlyIfOr, ExactlyIfAnd, ExactlyIfAndNot, passes, Place, term, set, placesOf, kindOf, testWith, placeDeclared, placesDeclared, rowDeclared}
 use Rattle.theory.specs.Reduction.{rule}
-use Rattle.question.proofs.TestLaws.{and-left, and-right, and-both}
+use Rattle.question.proofs.TestLaws.{and-left, and-right}
+use Rattle.theory.proofs.ListLaws.{every-map, all-every, all-map}
 use Rattle.theory.proofs.RuleLaws.{ownWitnesses, RuleNamed, RulesNamed}
 
 -- a test looks at its places and at nothing else
 module _ (has has′ same same′ : ℕ → Bool) where
-  abbrev Agree : Place → Type 0
+  abbrev pub Agree : Place → Type 0
   Agree (term c) = same c ≡ same′ c
   Agree (set x) = has x ≡ has′ x
 
-  abbrev AgreeAll : List Place → Type 0
-  AgreeAll [] = Unit {0}
-  AgreeAll (p ∷ ps) = Agree p × AgreeAll ps
-
-  passes-places : (t : Test) → AgreeAll (placesOf t) → passes has same t ≡ passes has′ same′ t
+  pub passes-places : (t : Test) → Every Agree (placesOf t) → passes has same t ≡ passes has′ same′ t
   passes-places (IsSame d) h = h .0
   passes-places (IsNotSame d) h = ap not (h .0)
   passes-places (IsIn x) h = h .0
@@ -45,12 +43,8 @@ module _ (has has′ same same′ : ℕ → Bool) where
     agree (term c) h = terms c (ltb→lt c E h)
     agree (set x) h = sets x (ltb→lt x S h)
 
-    agree-all : (ps : List Place) → T (placesDeclared E S ps) → AgreeAll ps
-    agree-all [] h = tt
-    agree-all (p ∷ ps) h = (agree p (and-left (placeDeclared E S p) (placesDeclared E S ps) h), agree-all ps (and-right (placeDeclared E S p) (placesDeclared E S ps) h))
-
     pub passes-local : (t : Test) → T (placesDeclared E S (placesOf t)) → passes has same t ≡ passes has′ same′ t
-    passes-local t h = passes-places t (agree-all (placesOf t) h)
+    passes-local t h = passes-places t (every-map (λ p. T (placeDeclared E S p)) Agree agree (placesOf t) (all-every (placeDeclared E S) (placesOf t) h))
 
 -- with more terms and sets, what was declared still is
 module _ (E S terms sets : ℕ) (e : E ≤ terms) (s : S ≤ sets) where
@@ -59,8 +53,28 @@ module _ (E S terms sets : ℕ) (e : E ≤ terms) (s : S ≤ sets) where
   place-more (set x) h = lt→ltb x sets (omega (arith, ltb→lt x S h))
 
   pub places-more : (ps : List Place) → T (placesDeclared E S ps) → T (placesDeclared terms sets ps)
-  places-more [] h = tt
-  places-more (p ∷ ps) h = and-both (placeDeclared terms sets p) (placesDeclared terms sets ps) (place-more p (and-left (placeDeclared E S p) (placesDeclared E S ps) h)) (places-more ps (and-right (placeDeclared E S p) (placesDeclared E S ps) h))
+  places-more = all-map (placeDeclared E S) (placeDeclared terms sets) place-more
+
+-- the term of a declared row, and its places
+module _ (terms sets : ℕ) (r : Row Test) (declared : T (rowDeclared terms sets r)) where
+  pub declared-term : r .term < terms
+  declared-term = ltb→lt (r .term) terms (and-left (ltb (r .term) terms) (placesDeclared terms sets (placesOf (r .test))) declared)
+
+  pub declared-places : T (placesDeclared terms sets (placesOf (r .test)))
+  declared-places = and-right (ltb (r .term) terms) (placesDeclared terms sets (placesOf (r .test))) declared
+
+-- the test of the kind of a test with its places is that test
+pub test-again : (t : Test) → testWith (kindOf t) (placesOf t) ≡ t
+test-again (IsSame d) = refl
+test-again (IsNotSame d) = refl
+test-again (IsIn x) = refl
+test-again (IsNotIn x) = refl
+test-again (ExactlyIfIn x y) = refl
+test-again (ExactlyIfNotIn x y) = refl
+test-again (ExactlyIfSame x a) = refl
+test-again (ExactlyIfOr x y z) = refl
+test-again (ExactlyIfAnd x y z) = refl
+test-again (ExactlyIfAndNot x y z) = refl
 
 -- a rule's places are its statement's names
 abbrev placeOf : Name → Place

@@ -2,28 +2,27 @@
 use Prim.Native.Nat.{ℕ, _≤_, _<_}
 use mathlib.Core.List.{List}
 use native.Mathlib.Omega.{arith}
-use lib.Dec.{T, ltb, ltb→lt, lt→ltb}
+use lib.Dec.{T, ltb, lt→ltb}
 use lib.ListN.{length, length-map}
 use Rattle.question.specs.declared.questions.Question.{Question}
 use Rattle.question.specs.Limits.{maxRows, maxTerms}
 use Rattle.question.specs.Questions.{statements, termsOf}
 use Rattle.question.specs.Checks.{IsAccepted}
 use Rattle.question.proofs.StatementsLaws.{statements-length}
+use Rattle.theory.specs.Lists.{Every}
 use Rattle.theory.specs.Rules.{Row}
 use Rattle.theory.specs.Solutions.{allRows}
 use Rattle.theory.specs.Sets.{Test, placesOf, placesDeclared, rowDeclared}
 use Rattle.theory.specs.Reduction.{rule, rowList}
-use Rattle.question.proofs.TestLaws.{and-left, and-both}
-use Rattle.theory.proofs.RuleLaws.{EveryRow, TermsBelow, every-map, all-every, every-all, rules-few, RowNamed, rows-named}
-use Rattle.theory.proofs.PlaceLaws.{Named, places-more, rules-named}
+use Rattle.question.proofs.TestLaws.{and-both}
+use Rattle.theory.proofs.ListLaws.{every-map, all-every, every-all}
+use Rattle.theory.proofs.RuleLaws.{TermsBelow, rules-few, RowNamed, rows-named}
+use Rattle.theory.proofs.PlaceLaws.{declared-term, Named, places-more, rules-named}
 use Rattle.theory.proofs.DemandThree.{rulesOf, terms-are}
 
 -- declared rows are about terms that there are
 pub declared-below : (terms sets : ℕ) (rows : List (Row Test)) → T (allRows (rowDeclared terms sets) rows) → TermsBelow terms rows
-declared-below terms sets rows h = every-map (λ r. T (rowDeclared terms sets r)) (λ r. r .term < terms) one rows (all-every (rowDeclared terms sets) rows h)
-  where
-    one : (r : Row Test) → T (rowDeclared terms sets r) → r .term < terms
-    one r d = ltb→lt (r .term) terms (and-left (ltb (r .term) terms) (placesDeclared terms sets (placesOf (r .test))) d)
+declared-below terms sets rows h = every-map (λ r. T (rowDeclared terms sets r)) (λ r. r .term < terms) (declared-term terms sets) rows (all-every (rowDeclared terms sets) rows h)
 
 module _ (q : Question) (accepted : IsAccepted q) where
   -- a rule names element names only, which are the first terms
@@ -39,7 +38,7 @@ module _ (q : Question) (accepted : IsAccepted q) where
   unfolding rowList
   rows-declared = every-all (rowDeclared (termsOf q) (q .sets)) (rowList q) (every-map NamedHere (λ r. T (rowDeclared (termsOf q) (q .sets) r)) named-declared (rowList q) all-named)
     where
-      all-named : EveryRow NamedHere (rowList q)
+      all-named : Every NamedHere (rowList q)
       all-named = rows-named (q .elements) (Named (q .elements) (q .sets)) (termsOf q) (q .elements) (rulesOf q)
           (rules-named (q .elements) (q .sets) (statements q) (accepted .all-declared)) (omega (arith, terms-are q)) (omega (arith, terms-are q))
 

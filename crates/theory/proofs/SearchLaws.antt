@@ -1,14 +1,15 @@
 -- What the searches find: the first number, or the first arrangement, that has a value, and nothing only where none has one.
 use Prim.Native.Nat.{ℕ, zero, suc, _+_, _≤_, _<_, max}
 use mathlib.Core.Path.{_≡_, refl, sym, ap, subst, _∙_}
+use mathlib.Core.Bool.{Bool, true, false, cond, true≢false}
 use mathlib.Core.List.{List, [], _∷_}
-use mathlib.Core.Option.{Option, none, some, Option·map, Option·none-ne-some}
+use mathlib.Core.Option.{Option, none, some, Option·map, Option·none-ne-some, Option·some-ne-none}
 use mathlib.Core.Logic.{inl, inr}
 use native.Mathlib.Omega.{arith}
-use native.Mathlib.Decide.{decLe}
+use native.Mathlib.Decide.{decLe, decLt}
 use lib.ListN.{length, getD}
 use Rattle.theory.specs.Arrangements.{MayFollow, Before}
-use Rattle.theory.specs.Searches.{firstFrom, firstPlacing, eachFrom}
+use Rattle.theory.specs.Searches.{firstFrom, firstPlacing, eachFrom, firstPassing}
 
 -- the first of the numbers c, c + 1, .. , n of them, that has a value; it has the value a
 pub record FirstNumber {A : Type 0} (n c : ℕ) (test : ℕ → Option A) (a : A) : Type 0 where
@@ -129,3 +130,46 @@ module _ {A : Type 0} where
       go none p r h = (c, omega arith, omega arith, p)
       go (some a) p none h = (h .0, omega arith, omega arith, h .3)
       go (some a) p (some l) h = (ap suc (h .0), at a p l (h .1))
+
+module _ (bound : ℕ) (passes : ℕ → Bool) where
+  -- the smallest number below the bound that passes, or none does
+  abbrev pub SmallestIs : Option ℕ → Type 0
+  SmallestIs none = (m : ℕ) → m < bound → passes m ≡ false
+  SmallestIs (some m) = (m < bound) × (passes m ≡ true) × ((w : ℕ) → w < m → passes w ≡ false)
+
+  pub firstPassing-is : SmallestIs (firstPassing bound passes)
+  unfolding firstPassing
+  firstPassing-is = go (firstFrom bound 0 try) (firstFrom-is bound 0 try)
+    where
+      try : ℕ → Option ℕ
+      try m = cond (passes m) (some m) none
+
+      failed : (m : ℕ) (b : Bool) → cond b (some m) none ≡ none → b ≡ false
+      failed m true e = absurd (Option·some-ne-none m e)
+      failed m false e = refl
+
+      passed : (m a : ℕ) (b : Bool) → cond b (some m) none ≡ some a → (b ≡ true) × (m ≡ a)
+      passed m a true e = (refl, cc)
+      passed m a false e = absurd (Option·none-ne-some a e)
+
+      go : (o : Option ℕ) → FirstNumberIs bound 0 try o → SmallestIs o
+      go none h = λ m lt. failed m (passes m) (h m (omega arith) (omega arith))
+      go (some m) h =
+          let p = passed (h .at) m (passes (h .at)) (h .gives) in
+          let e : h .at ≡ m = p .1 in
+          (omega arith, subst (λ i. passes i ≡ true) e (p .0), λ w lt. failed w (passes w) (h .none-before w (omega arith) (omega arith)))
+
+  one-smallest : (o p : Option ℕ) → SmallestIs o → SmallestIs p → o ≡ p
+  one-smallest none none h k = refl
+  one-smallest none (some m) h k = absurd (true≢false (sym (k .1) ∙ h m (k .0)))
+  one-smallest (some m) none h k = absurd (true≢false (sym (h .1) ∙ k m (h .0)))
+  one-smallest (some m) (some w) h k = go (decLt m w) (decLt w m)
+    where
+      go : Dec (m < w) → Dec (w < m) → some m ≡ some w
+      go (yes lt) d = absurd (true≢false (sym (h .1) ∙ k .2 m lt))
+      go (no ge) (yes lt) = absurd (true≢false (sym (k .1) ∙ h .2 w lt))
+      go (no ge) (no le) = ap some (omega arith)
+
+  -- what is the smallest is found
+  pub firstPassing-one : (o : Option ℕ) → SmallestIs o → firstPassing bound passes ≡ o
+  firstPassing-one o h = one-smallest (firstPassing bound passes) o firstPassing-is h

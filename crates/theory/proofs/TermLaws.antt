@@ -6,23 +6,15 @@ use mathlib.Core.List.{List, [], _∷_, _++_, map}
 use native.Mathlib.Omega.{arith}
 use lib.ListN.{length, getD, length-append, length-map}
 use lib.Seq.{append-snoc, getD-at}
+use Rattle.theory.specs.Lists.{Every}
 use Rattle.theory.specs.Rules.{Rule, OneTerm, EachTerm, OwnWitness, upward, ownWitness}
+use Rattle.theory.proofs.ListLaws.{every-append}
 use Rattle.theory.proofs.RuleLaws.{upward-length, ownWitnesses}
 use Rattle.theory.proofs.ModelLaws.{MaskModel, RuleMet, RulesMet}
 
 -- numbers below n, in a list
 abbrev pub AllBelow : ℕ → List ℕ → Type 0
-AllBelow n [] = Unit {0}
-AllBelow n (x ∷ xs) = (x < n) × AllBelow n xs
-
-pub below-at : (n : ℕ) (xs : List ℕ) (i : ℕ) → AllBelow n xs → i < length xs → getD xs i 0 < n
-below-at n [] i h lt = absurd (omega arith)
-below-at n (x ∷ xs) zero h lt = h .0
-below-at n (x ∷ xs) (suc i) h lt = below-at n xs i (h .1) (omega arith)
-
-pub below-append : (n : ℕ) (xs ys : List ℕ) → AllBelow n xs → AllBelow n ys → AllBelow n (xs ++ ys)
-below-append n [] ys p q = q
-below-append n (x ∷ xs) ys p q = (p .0, below-append n xs ys (p .1) q)
+AllBelow n xs = Every (λ x. x < n) xs
 
 -- the elements of the names 0, .. , E - 1
 module _ (of : ℕ → ℕ) where
@@ -60,7 +52,7 @@ module _ {Test : Type 0} (fits : ℕ → (ℕ → Bool) → Test → Bool) (M : 
 
   pub found-below : (rs : List (Rule Test)) (h : RulesMet fits M rs) → AllBelow (M .size) (found rs h)
   found-below [] h = tt
-  found-below (r ∷ rs) h = below-append (M .size) (found-by r (h .0)) (found rs (h .1)) (one r (h .0)) (found-below rs (h .1))
+  found-below (r ∷ rs) h = every-append (λ x. x < M .size) (found-by r (h .0)) (found rs (h .1)) (one r (h .0)) (found-below rs (h .1))
     where
       one : (r : Rule Test) (h : RuleMet fits M r) → AllBelow (M .size) (found-by r h)
       one (OneTerm a t) h = tt

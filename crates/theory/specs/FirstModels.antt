@@ -1,11 +1,11 @@
 -- The first model of some rows: the first arrangement that has any solution, and for each class the smallest mask that meets all rows of its terms.
 use Prim.Native.Nat.{ℕ, _≤_, _<_}
-use mathlib.Core.Bool.{Bool, not, _||_, cond}
+use mathlib.Core.Bool.{Bool, not, _||_}
 use mathlib.Core.List.{List}
-use mathlib.Core.Option.{Option, none, some, Option·map}
+use mathlib.Core.Option.{Option, Option·map}
 use lib.Dec.{T}
 use Rattle.theory.specs.Arrangements.{classes, inClass, Before}
-use Rattle.theory.specs.Searches.{firstFrom, firstArrangement, eachFrom}
+use Rattle.theory.specs.Searches.{firstArrangement, eachFrom, firstPassing}
 use Rattle.theory.specs.Rules.{Row}
 use Rattle.theory.specs.Solutions.{Solution, withMasks, maskOf, allRows, metBy, IsSolution}
 
@@ -20,7 +20,7 @@ module _ {Test : Type 0} (fits : ℕ → (ℕ → Bool) → Test → Bool) where
 
   -- the smallest mask below the bound that does
   unfoldable pub smallestMask : ℕ → List (Row Test) → List ℕ → ℕ → Option ℕ
-  smallestMask bound rows l k = firstFrom bound 0 (λ m. cond (servesAll rows l k m) (some m) none)
+  smallestMask bound rows l k = firstPassing bound (servesAll rows l k)
 
   -- the arrangement with the smallest mask of each class, where each has one
   unfoldable pub modelOf : ℕ → List (Row Test) → List ℕ → Option Solution

@@ -1,5 +1,6 @@
 -- The first value that a test gives: over numbers, and over arrangements in their order.
 use Prim.Native.Nat.{ℕ, zero, suc, max}
+use mathlib.Core.Bool.{Bool, cond}
 use mathlib.Core.List.{List, [], _∷_}
 use mathlib.Core.Option.{Option, none, some, Option·map}
 
@@ -22,3 +23,7 @@ module _ {A : Type 0} where
   unfoldable pub eachFrom : ℕ → ℕ → (ℕ → Option A) → Option (List A)
   eachFrom zero c test = some []
   eachFrom (suc n) c test = elim (test c) [ none ↦ none | some a ↦ Option·map (λ l. a ∷ l) (eachFrom n (suc c) test) ]
+
+-- the smallest number below the bound that passes a test
+unfoldable pub firstPassing : ℕ → (ℕ → Bool) → Option ℕ
+firstPassing bound passes = firstFrom bound 0 (λ m. cond (passes m) (some m) none)

@@ -1,9 +1,11 @@
--- The rows of flat sets: the row kinds 0 to 9 of document 01, and when a term passes each.
+-- The rows of flat sets: the row kinds 0 to 9 of document 01, when a term passes each, and the places of each.
 use Prim.Native.Nat.{ℕ}
-use mathlib.Core.Bool.{Bool, true, not, _&&_, _||_, Bool·beq}
-use mathlib.Core.List.{List, [], _∷_}
+use mathlib.Core.Bool.{Bool, not, _&&_, _||_, Bool·beq}
+use mathlib.Core.List.{List, [], _∷_, map}
 use lib.Dec.{ltb}
+use lib.ListN.{getD}
 use Rattle.question.specs.Masks.{bit}
+use Rattle.theory.specs.Lists.{allOf}
 use Rattle.theory.specs.Rules.{Row}
 
 -- the column "row for term c", without c: d and a are terms, x, y and z are sets
@@ -51,6 +53,51 @@ placesOf (ExactlyIfOr x y z) = set x ∷ set y ∷ set z ∷ []
 placesOf (ExactlyIfAnd x y z) = set x ∷ set y ∷ set z ∷ []
 placesOf (ExactlyIfAndNot x y z) = set x ∷ set y ∷ set z ∷ []
 
+-- the terms among some places, and the sets
+abbrev pub termsAmong : List Place → List ℕ
+termsAmong [] = []
+termsAmong (term c ∷ ps) = c ∷ termsAmong ps
+termsAmong (set x ∷ ps) = termsAmong ps
+
+abbrev pub setsAmong : List Place → List ℕ
+setsAmong [] = []
+setsAmong (term c ∷ ps) = setsAmong ps
+setsAmong (set x ∷ ps) = x ∷ setsAmong ps
+
+-- the column "kind"
+abbrev pub kindOf : Test → ℕ
+kindOf (IsSame d) = 0
+kindOf (IsNotSame d) = 1
+kindOf (IsIn x) = 2
+kindOf (IsNotIn x) = 3
+kindOf (ExactlyIfIn x y) = 4
+kindOf (ExactlyIfNotIn x y) = 5
+kindOf (ExactlyIfSame x a) = 6
+kindOf (ExactlyIfOr x y z) = 7
+kindOf (ExactlyIfAnd x y z) = 8
+kindOf (ExactlyIfAndNot x y z) = 9
+
+-- the tests that the numbers x, y and z make, kind by kind
+abbrev pub testsOf : ℕ → ℕ → ℕ → List Test
+testsOf x y z = IsSame x ∷ IsNotSame x ∷ IsIn x ∷ IsNotIn x ∷ ExactlyIfIn x y ∷ ExactlyIfNotIn x y ∷ ExactlyIfSame x y ∷ ExactlyIfOr x y z ∷ ExactlyIfAnd x y z ∷ ExactlyIfAndNot x y z ∷ []
+
+-- the test that a kind and three numbers say; a kind above 9 says nothing, and is refused before anybody asks
+abbrev pub testOf : ℕ → ℕ → ℕ → ℕ → Test
+testOf kind x y z = getD (testsOf x y z) kind (IsSame x)
+
+-- the number of a term or set
+abbrev pub numberOf : Place → ℕ
+numberOf (term c) = c
+numberOf (set x) = x
+
+-- the number at the place i: places not used hold 0
+abbrev pub numberAt : List Place → ℕ → ℕ
+numberAt ps i = getD (map numberOf ps) i 0
+
+-- the test of a kind with these places
+abbrev pub testWith : ℕ → List Place → Test
+testWith kind ps = testOf kind (numberAt ps 0) (numberAt ps 1) (numberAt ps 2)
+
 -- where there are so many terms and so many sets
 module _ (terms sets : ℕ) where
   -- is the place the number of a term, or of a set, that there is
@@ -60,8 +107,7 @@ module _ (terms sets : ℕ) where
 
   -- are all places
   abbrev pub placesDeclared : List Place → Bool
-  placesDeclared [] = true
-  placesDeclared (p ∷ ps) = placeDeclared p && placesDeclared ps
+  placesDeclared ps = allOf placeDeclared ps
 
   -- are the row's term and its places
   abbrev pub rowDeclared : Row Test → Bool

@@ -1,10 +1,11 @@
 -- Solutions of rows: an arrangement and a mask for each class that together meet every row. A mask is any number below a bound.
 use Prim.Native.Nat.{ℕ, _<_}
 use mathlib.Core.Path.{_≡_}
-use mathlib.Core.Bool.{Bool, true, _&&_}
-use mathlib.Core.List.{List, [], _∷_}
+use mathlib.Core.Bool.{Bool}
+use mathlib.Core.List.{List}
 use lib.Dec.{T}
 use lib.ListN.{length, getD}
+use Rattle.theory.specs.Lists.{allOf}
 use Rattle.theory.specs.Arrangements.{IsArrangement, classes, classOf, inClass}
 use Rattle.theory.specs.Rules.{Row}
 
@@ -23,8 +24,7 @@ maskOf ms k = getD ms k 0
 
 -- does every row pass
 abbrev pub allRows : {Test : Type 0} → (Row Test → Bool) → List (Row Test) → Bool
-allRows f [] = true
-allRows f (r ∷ rs) = f r && allRows f rs
+allRows f rows = allOf f rows
 
 -- no test of single rows tells the two lists apart: every row of one is in the other
 abbrev pub SameRows : {Test : Type 0} → List (Row Test) → List (Row Test) → Type 0

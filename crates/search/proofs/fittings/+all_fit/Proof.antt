@@ -12,9 +12,10 @@ use borrow.Fn.PlainCycle.{Measures, is, falls, and}
 use lib.Bits.{bitOr}
 use lib.ListN.{length, getD}
 use Rattle.question.specs.Limits.{maxTerms}
+use Rattle.theory.specs.Sets.{fits}
 use Rattle.mask.specs.Entries.{rowsOfEntries}
-use Rattle.cut.specs.Others.{before}
-use Rattle.cut.proofs.OtherLaws.{before-next}
+use Rattle.cut.specs.Asked.{before}
+use Rattle.cut.proofs.AskedLaws.{before-next}
 use Rattle.cut.proofs.TriedLaws.{Tried, tried-none, tried-stuck, tried-lacks, tried-alone, tried-new}
 use Rattle.search.specs.Memos.{Memo, classCount}
 use Rattle.search.specs.Fittings.{OthersAre, NoPart, NothingFits}
@@ -37,7 +38,7 @@ abbrev μ-all-fit : Measures 2 kinds.ps ℕ
 μ-all-fit κs a = a .1 .1 .1 .1 .1 .1 .1 .0
 
 abbrev Inv-loop : lts.InvT-loop
-Inv-loop entries memo₀ others used from term left sets groups own k₀ memo k = (k ≤ used) × Tried (2 ^ sets) (rowsOfEntries entries) (before others term) groups used (term + left) term k × Memo entries sets memo
+Inv-loop entries memo₀ others used from term left sets groups own k₀ memo k = (k ≤ used) × Tried fits (2 ^ sets) (rowsOfEntries entries) (before others term) groups used (term + left) term k × Memo entries sets memo
 
 abbrev μ-loop : lts.MeasureT-loop
 μ-loop entries memo₀ others used from term left sets groups own k₀ memo k = used - k
@@ -185,13 +186,13 @@ module _ (t : ℕ) where
       ⊎-elim
       (λ w. (
         omega arith,
-        tried-stuck (2 ^ (a .sets)) rows known (a .t4) (a .used) (a .term + a .left) (a .term) more (before-next (a .others) (a .term)) (l .loop .k) (turn .loop-test .taken) (inside turn) (l .loop .inv .1) (w .1 .result) (w .1 .ensures)
+        tried-stuck fits (2 ^ (a .sets)) rows known (a .t4) (a .used) (a .term + a .left) (a .term) more (before-next (a .others) (a .term)) (l .loop .k) (turn .loop-test .taken) (inside turn) (l .loop .inv .1) (w .1 .result) (w .1 .ensures)
             (subst (NothingFits (a .entries .now) (a .sets) (a .others) (a .term + 1) (w .1 .result) (a .used)) (sym (all (first l))) (w .3 .ensures .0 (w .6 .left))),
         subst (Memo (a .entries .now) (a .sets)) (sym (w .7)) (w .3 .ensures .1),
       ))
       (λ w. (
         omega arith,
-        tried-lacks (2 ^ (a .sets)) rows known (a .t4) (a .used) (a .term + a .left) (a .term) more (before-next (a .others) (a .term)) (l .loop .k) (turn .loop-test .taken) (inside turn) (l .loop .inv .1)
+        tried-lacks fits (2 ^ (a .sets)) rows known (a .t4) (a .used) (a .term + a .left) (a .term) more (before-next (a .others) (a .term)) (l .loop .k) (turn .loop-test .taken) (inside turn) (l .loop .inv .1)
             (subst (λ n. NoPart (a .entries .now) (a .sets) (a .others) (a .term + 1) (bitOr (getD (a .t4) (l .loop .k) 0) n) (a .term + a .left)) (own-is l)
             (subst (NoPart (a .entries .now) (a .sets) (a .others) (a .term + 1) _) (sym (all (first l))) (asked .ensures .0 (w .0 .left)))),
         subst (Memo (a .entries .now) (a .sets)) (sym (w .1)) (asked .ensures .1),
@@ -211,7 +212,7 @@ module _ (t : ℕ) where
       let after = c .before .before .before .before .before in
       let l = after .before in
       let a = start l .args in (
-        λ r. tried-alone (2 ^ (a .sets)) (rowsOfEntries (a .entries .now)) (before (a .others) (a .term)) (a .t4) (a .used) (a .term + a .left) (a .term) (before (a .others) (a .term + 1)) (before-next (a .others) (a .term)) (l .loop .k) (after .loop-test .left) (omega (arith, some-left (first l)))
+        λ r. tried-alone fits (2 ^ (a .sets)) (rowsOfEntries (a .entries .now)) (before (a .others) (a .term)) (a .t4) (a .used) (a .term + a .left) (a .term) (before (a .others) (a .term + 1)) (before-next (a .others) (a .term)) (l .loop .k) (after .loop-test .left) (omega (arith, some-left (first l)))
             (l .loop .inv .1)
             (subst (λ n. NoPart (a .entries .now) (a .sets) (a .others) (a .term + 1) n (a .term + a .left)) (own-is l)
             (subst (NoPart (a .entries .now) (a .sets) (a .others) (a .term + 1) _) (sym (all (first l))) (asked .ensures .0 (not-true (asked .result) (c .if5 .taken))))),
@@ -239,7 +240,7 @@ module _ (t : ℕ) where
       let l = after .before in
       let a = start l .args in
       let next = call .before .before .with-set in (
-        λ r. tried-new (2 ^ (a .sets)) (rowsOfEntries (a .entries .now)) (before (a .others) (a .term)) (a .t4) (a .used) (a .term + a .left) (a .term) (before (a .others) (a .term + 1)) (before-next (a .others) (a .term)) (l .loop .k) (after .loop-test .left) (omega (arith, some-left (first l)))
+        λ r. tried-new fits (2 ^ (a .sets)) (rowsOfEntries (a .entries .now)) (before (a .others) (a .term)) (a .t4) (a .used) (a .term + a .left) (a .term) (before (a .others) (a .term + 1)) (before-next (a .others) (a .term)) (l .loop .k) (after .loop-test .left) (omega (arith, some-left (first l)))
             (l .loop .inv .1) (free l) (next .result) (next .ensures)
             (subst (NothingFits (a .entries .now) (a .sets) (a .others) (a .term + 1) (next .result) (a .used + 1)) (sym (all (first l))) (call .all-fit3 .ensures .0 r)),
         call .all-fit3 .ensures .1,
@@ -262,7 +263,7 @@ pub +all-fit-spec : {M : Type 1} → statement M
     (λ c.
     let s = c .before .before .before .before .before .before in
     let a = s .args in
-    (omega arith, tried-none (2 ^ (a .sets)) (rowsOfEntries (a .entries .now)) (before (a .others) (a .term)) (a .t4) (a .used) (a .term + a .left) (a .term), s .pre .1 .1 .0))
+    (omega arith, tried-none fits (2 ^ (a .sets)) (rowsOfEntries (a .entries .now)) (before (a .others) (a .term)) (a .t4) (a .used) (a .term + a .left) (a .term), s .pre .1 .1 .0))
     (λ c. search needs)
     (λ c. omega (arith, inside t c))
     (λ c. omega (arith, inside t c))

@@ -9,11 +9,13 @@ use borrow.Fn.Kinds.{In}
 use borrow.Fn.PlainCycle.{Measures, is, falls, and}
 use lib.Bits.{bitOr}
 use Rattle.question.specs.Limits.{maxTerms}
+use Rattle.theory.specs.Sets.{fits}
 use Rattle.mask.specs.Entries.{rowsOfEntries}
-use Rattle.cut.specs.Others.{before}
-use Rattle.cut.proofs.OtherLaws.{before-next}
+use Rattle.cut.specs.Asked.{before}
+use Rattle.cut.proofs.AskedLaws.{before-next}
 use Rattle.cut.proofs.PartLaws.{none-part}
 use Rattle.cut.proofs.TriedLaws.{neither}
+use Rattle.cut.proofs.SetLaws.{setTests}
 use Rattle.search.specs.Memos.{maskOfClass, classCount}
 use Rattle.search.specs.Fittings.{OthersAre, NoPart}
 use Rattle.search.proofs.MemoLaws.{not-there}
@@ -57,7 +59,7 @@ module _ (t : ℕ) where
       let s = e .before .before .before in
       let a = s .args in
       let all : a .term + a .left ≡ a .term = omega (arith, e .if1 .taken) in (
-        λ r. none-part (2 ^ (a .sets)) (rowsOfEntries (a .entries .now)) (before (a .others) (a .term)) (a .class) (a .term + a .left) (subst (OthersAre (a .entries .now) (a .others)) all (s .pre .1 .1 .1 .1))
+        λ r. none-part setTests (2 ^ (a .sets)) (rowsOfEntries (a .entries .now)) (before (a .others) (a .term)) (a .class) (a .term + a .left) (subst (OthersAre (a .entries .now) (a .others)) all (s .pre .1 .1 .1 .1))
             (not-there (maskOfClass (a .entries .now) (a .sets) (a .class)) (sym (asked .ensures .0) ∙ r)),
         asked .ensures .1,
       )
@@ -120,7 +122,7 @@ module _ (t : ℕ) where
       let first = own .before .before .before .before .before .before in
       let e = first .before .before in
       let a = e .before .before .before .args in (
-        λ r. neither (2 ^ (a .sets)) (rowsOfEntries (a .entries .now)) (before (a .others) (a .term)) (before (a .others) (a .term + 1)) (a .term) (before-next (a .others) (a .term)) (a .class) (a .term + a .left)
+        λ r. neither fits (2 ^ (a .sets)) (rowsOfEntries (a .entries .now)) (before (a .others) (a .term)) (before (a .others) (a .term + 1)) (a .term) (before-next (a .others) (a .term)) (a .class) (a .term + a .left)
             (next-tells e (a .class) (first .part-fits .ensures .0 (own .before .before .before .if2 .left)))
             (subst (λ n. NoPart (a .entries .now) (a .sets) (a .others) (a .term + 1) (bitOr (a .class) n) (a .term + a .left)) (own .term-alone .ensures) (next-tells e _ (call .part-fits2 .ensures .0 r))),
         call .part-fits2 .ensures .1,

@@ -1,13 +1,15 @@
 -- `other_asked` goes by the kind of the rows: an arm for each, and a kind above 9 says that the terms are the same.
 use borrow.Author.Needs.{needs}
+use Rattle.question.specs.Masks.{bit}
 use Rattle.row.specs.Rows.{rowOf}
 use Rattle.mask.proofs.RowLaws.{places-are-bits, past-kinds}
+use Rattle.cut.proofs.AskedLaws.{one-known}
 use Rattle.search.proofs.others.other_asked.Statement.{statement}
 use Rattle.search.proofs.others.other_asked.Tie as tie
 
 returns : tie.Need-returns
 unfolding rowOf
-returns c d h = rw (← (c .before .before .unpack .ensures), c .before .match .keys1) (c .asked-besides .ensures d h)
+returns c d h = rw (← (c .before .before .unpack .ensures), c .before .match .keys1) (one-known (bit (c .asked-besides .result)) d (c .before .before .unpack .result .first) (c .asked-besides .ensures d h))
 
 returns-2 : tie.Need-returns-2
 unfolding rowOf
@@ -31,7 +33,7 @@ returns-6 c d h = rw (← (c .before .unpack .ensures), c .match .keys6) tt
 
 returns-7 : tie.Need-returns-7
 unfolding rowOf
-returns-7 c d h = rw (← (c .before .before .unpack .ensures), c .before .match .keys7) (c .asked-besides2 .ensures d h)
+returns-7 c d h = rw (← (c .before .before .unpack .ensures), c .before .match .keys7) (one-known (bit (c .asked-besides2 .result)) d (c .before .before .unpack .result .second) (c .asked-besides2 .ensures d h))
 
 returns-8 : tie.Need-returns-8
 unfolding rowOf
@@ -47,7 +49,7 @@ returns-10 c d h = rw (← (c .before .unpack .ensures), c .match .keys10) tt
 
 returns-11 : tie.Need-returns-11
 unfolding rowOf
-returns-11 c d h = rw (← (c .before .before .unpack .ensures), past-kinds _ _ _ _ (c .before .match .rest)) (c .asked-besides3 .ensures d h)
+returns-11 c d h = rw (← (c .before .before .unpack .ensures), past-kinds _ _ _ _ (c .before .match .rest)) (one-known (bit (c .asked-besides3 .result)) d (c .before .before .unpack .result .first) (c .asked-besides3 .ensures d h))
 
 pub other-asked-spec : {M : Type 1} → statement M
 other-asked-spec =

@@ -12,10 +12,12 @@ use borrow.Fn.PlainCycle.{Measures, is, falls, and}
 use lib.Bits.{bitOr}
 use lib.ListN.{length, getD}
 use Rattle.question.specs.Limits.{maxTerms}
+use Rattle.theory.specs.Sets.{fits}
 use Rattle.mask.specs.Entries.{rowsOfEntries}
-use Rattle.cut.specs.Others.{before}
+use Rattle.cut.specs.Asked.{before}
 use Rattle.cut.proofs.PartLaws.{none-part}
 use Rattle.cut.proofs.TriedLaws.{Tried, tried-none, tried-stuck, tried-lacks, tried-alone}
+use Rattle.cut.proofs.SetLaws.{setTests}
 use Rattle.search.specs.Memos.{maskOfClass, Memo, classCount}
 use Rattle.search.specs.Fittings.{OthersAre, NothingFits}
 use Rattle.search.proofs.MemoLaws.{not-there}
@@ -37,7 +39,7 @@ abbrev μ-rest-fits : Measures 2 kinds.ps ℕ
 
 abbrev Inv-loop : lts.InvT-loop
 Inv-loop entries memo₀ others used term left sets groups own k₀ memo k =
-    (k ≤ used) × Tried (2 ^ sets) (rowsOfEntries entries) (before others (term + left)) groups used (term + left) term k × Memo entries sets memo
+    (k ≤ used) × Tried fits (2 ^ sets) (rowsOfEntries entries) (before others (term + left)) groups used (term + left) term k × Memo entries sets memo
 
 abbrev μ-loop : lts.MeasureT-loop
 μ-loop entries memo₀ others used term left sets groups own k₀ memo k = used - k
@@ -155,14 +157,14 @@ module _ (t : ℕ) where
       ⊎-elim
       (λ w. (
         omega arith,
-        tried-stuck (2 ^ (a .sets)) rows known (a .t4) (a .used) (a .term + a .left) (a .term) known (λ d h. inl h) (l .loop .k) (turn .loop-test .taken) (within turn) (l .loop .inv .1) (w .1 .result) (w .1 .ensures)
+        tried-stuck fits (2 ^ (a .sets)) rows known (a .t4) (a .used) (a .term + a .left) (a .term) known (λ d h. inl h) (l .loop .k) (turn .loop-test .taken) (within turn) (l .loop .inv .1) (w .1 .result) (w .1 .ensures)
             (subst (λ n. NothingFits (a .entries .now) (a .sets) (a .others) n (w .1 .result) (a .used) n) (sym (all (first l))) (w .3 .ensures .0 (w .6 .left))),
         subst (Memo (a .entries .now) (a .sets)) (sym (w .7)) (w .3 .ensures .1),
       ))
       (λ w. (
         omega arith,
-        tried-lacks (2 ^ (a .sets)) rows known (a .t4) (a .used) (a .term + a .left) (a .term) known (λ d h. inl h) (l .loop .k) (turn .loop-test .taken) (within turn) (l .loop .inv .1)
-            (none-part (2 ^ (a .sets)) rows known (bitOr (getD (a .t4) (l .loop .k) 0) (2 ^ (a .term))) (a .term + a .left) (s .pre .1 .1 .1 .1)
+        tried-lacks fits (2 ^ (a .sets)) rows known (a .t4) (a .used) (a .term + a .left) (a .term) known (λ d h. inl h) (l .loop .k) (turn .loop-test .taken) (within turn) (l .loop .inv .1)
+            (none-part setTests (2 ^ (a .sets)) rows known (bitOr (getD (a .t4) (l .loop .k) 0) (2 ^ (a .term))) (a .term + a .left) (s .pre .1 .1 .1 .1)
             (ap (λ n. maskOfClass (a .entries .now) (a .sets) (bitOr (getD (a .t4) (l .loop .k) 0) n)) (sym (own-is l)) ∙ not-there (maskOfClass (a .entries .now) (a .sets) _) (sym (asked .ensures .0) ∙ w .0 .left))),
         subst (Memo (a .entries .now) (a .sets)) (sym (w .1)) (asked .ensures .1),
       ))
@@ -177,8 +179,8 @@ module _ (t : ℕ) where
       let rows = rowsOfEntries (a .entries .now) in
       let asked = l .before .before .before .before .needs-a-set in
       let alone = ap (maskOfClass (a .entries .now) (a .sets)) (sym (own-is l)) ∙ asked .ensures .0 (not-false (asked .result) (l .before .if2 .left)) in (
-        λ r. tried-alone (2 ^ (a .sets)) rows known (a .t4) (a .used) (a .term + a .left) (a .term) known (λ d h. inl h) (l .loop .k) (c .loop-test .left) (omega (arith, some-left (first l))) (l .loop .inv .1)
-            (none-part (2 ^ (a .sets)) rows known (2 ^ (a .term)) (a .term + a .left) (s .pre .1 .1 .1 .1) alone),
+        λ r. tried-alone fits (2 ^ (a .sets)) rows known (a .t4) (a .used) (a .term + a .left) (a .term) known (λ d h. inl h) (l .loop .k) (c .loop-test .left) (omega (arith, some-left (first l))) (l .loop .inv .1)
+            (none-part setTests (2 ^ (a .sets)) rows known (2 ^ (a .term)) (a .term + a .left) (s .pre .1 .1 .1 .1) alone),
         l .loop .inv .2,
       )
 
@@ -196,7 +198,7 @@ pub +rest-fits-spec : {M : Type 1} → statement M
     (λ c.
     let s = c .before .before .before .before .before .before .before .before .before in
     let a = s .args in
-    (omega arith, tried-none (2 ^ (a .sets)) (rowsOfEntries (a .entries .now)) (before (a .others) (a .term + a .left)) (a .t4) (a .used) (a .term + a .left) (a .term), c .before .before .before .needs-a-set .ensures .1))
+    (omega arith, tried-none fits (2 ^ (a .sets)) (rowsOfEntries (a .entries .now)) (before (a .others) (a .term + a .left)) (a .t4) (a .used) (a .term + a .left) (a .term), c .before .before .before .needs-a-set .ensures .1))
     (λ c. search needs)
     (λ c. omega (arith, inside t c))
     (λ c. omega (arith, inside t c))

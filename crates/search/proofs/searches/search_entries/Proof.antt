@@ -8,7 +8,8 @@ use lib.Dec.{T}
 use Rattle.theory.specs.Solutions.{allRows}
 use Rattle.theory.specs.Sets.{rowDeclared}
 use Rattle.mask.specs.Entries.{rowsOfEntries}
-use Rattle.cut.proofs.OtherLaws.{others-before}
+use Rattle.cut.proofs.AskedLaws.{asked-before}
+use Rattle.cut.proofs.SetLaws.{setTests, declared-within}
 use Rattle.search.specs.Answers.{padded}
 use Rattle.search.specs.Fittings.{OthersAre}
 use Rattle.search.proofs.PlacingLaws.{placing-start}
@@ -29,7 +30,7 @@ place-requires c κs =
         omega (arith, s .pre .0 .0),
         (
           subst (λ n. T (allRows (rowDeclared n (a .sets)) (rowsOfEntries (a .entries .now)))) all (s .pre .1),
-          subst (OthersAre (a .entries .now) (asked .result)) all (others-before (a .terms) (a .sets) (asked .result) (rowsOfEntries (a .entries .now)) (s .pre .1) (asked .ensures)),
+          subst (OthersAre (a .entries .now) (asked .result)) all (asked-before setTests (a .terms) (asked .result) (rowsOfEntries (a .entries .now)) (declared-within (a .terms) (a .sets) (rowsOfEntries (a .entries .now)) (s .pre .1)) (asked .ensures)),
         ),
       ),
     )
