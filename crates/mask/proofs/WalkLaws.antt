@@ -14,13 +14,17 @@ use Rattle.theory.specs.Solutions.{allRows}
 use Rattle.theory.proofs.RuleLaws.{all-append}
 use Rattle.mask.specs.Least.{meetsRow}
 use Rattle.mask.specs.Entries.{testIn, termsIn, rowsOfEntry, rowsOfEntries}
-use Rattle.mask.specs.Walks.{meetsEntry, MeetsBefore}
+use Rattle.mask.specs.Tests.{meetsEntry}
 use Rattle.mask.specs.Reasons.{Agrees}
 use Rattle.mask.specs.Blames.{blamed}
 use Rattle.mask.specs.Trials.{IsDecided}
 use Rattle.mask.proofs.BlameLaws.{blamed-decides}
 use Rattle.mask.proofs.EntryLaws.{entry-apart, entry-meets}
 use Rattle.mask.proofs.LeastLaws.{meetsAll}
+
+-- the mask m meets every entry before i
+abbrev pub MeetsBefore : ℕ → List ℕ → ℕ → ℕ → Type 0
+MeetsBefore class entries m i = (k : ℕ) → k < i → meetsEntry class m (getD entries k 0) ≡ true
 
 -- all entries pass
 all-pass : (f : Row Test → Bool) (entries : List ℕ) → ((k : ℕ) → k < length entries → allRows f (rowsOfEntry (getD entries k 0)) ≡ true) → allRows f (rowsOfEntries entries) ≡ true

@@ -7,7 +7,6 @@ mod masks;
 mod notes;
 mod tests;
 mod trials;
-mod walks;
 
 pub use lowest::lowest_set;
 pub use masks::Smallest;
