@@ -2,6 +2,7 @@
 pub mod BitLaws
 pub mod CheckLaws
 pub mod RoundTrips
+pub mod TestLaws
 pub mod GoodRows
 pub mod DeclaredRows
 pub mod AcceptedRows
