@@ -2,7 +2,7 @@
 use Prim.Native.Nat.{ℕ, zero, suc, _+_, _*_, _%_, _^_, _≤_, _<_}
 use mathlib.Core.Path.{_≡_, refl, sym, ap, subst, _∙_}
 use mathlib.Core.Logic.{_≢_}
-use mathlib.Core.Bool.{Bool, true, false, not, _&&_, _||_, cond, true≢false}
+use mathlib.Core.Bool.{Bool, true, false, not, _&&_, _||_, cond, true≢false, or-true}
 use mathlib.Core.List.{_∷_}
 use native.Mathlib.Omega.{arith}
 use native.Mathlib.Decide.{ℕ-discrete}
@@ -86,12 +86,8 @@ module _ (class : ℕ) (P : Bool) (t : Test) (f : Row Test → Bool) (f-is : (c 
           let both = bit-both terms class (s .0) (s .2) in
           sym (ap (λ x. not x || P) (both .1)) ∙ sym (f-is (s .0)) ∙ rows-each f t termRoom 0 terms h (s .0) (omega arith) (omega (arith, s .1)) (both .0)
 
-      always : (x : Bool) → (x || true) ≡ true
-      always true = refl
-      always false = refl
-
       from : P ≡ true → allRows f (rowsFor termRoom 0 terms t) ≡ true
-      from e = rows-pass f t termRoom 0 terms (λ d lo hi b. f-is d ∙ ap (λ p. not (bit class d) || p) e ∙ always (not (bit class d)))
+      from e = rows-pass f t termRoom 0 terms (λ d lo hi b. f-is d ∙ ap (λ p. not (bit class d) || p) e ∙ or-true (not (bit class d)))
 
 -- an entry is asked of a class that has one of its terms
 module _ (class e : ℕ) where

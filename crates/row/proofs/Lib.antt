@@ -1,5 +1,6 @@
 -- Laws that belong to no one function.
 pub mod BitLaws
+pub mod KindLaws
 pub mod CheckLaws
 pub mod RoundTrips
 pub mod TestLaws
