@@ -9,7 +9,7 @@ use native.Mathlib.Nat.{div-self, mul-le-mul-left, pow-zero, pow-suc, div-one}
 use borrow.Author.Tests.{eqb-true, eqb-false, eq-eqb, ne-eqb}
 use lib.Bits.{bitOr, or-shr, or-step, bitAnd, and-shr, and-step}
 use lib.Dec.{eqb}
-use lib.Pow.{pow-pos, shl-exact}
+use lib.Pow.{pow-pos}
 use Rattle.question.specs.Masks.{bit}
 use Rattle.question.proofs.TestLaws.{same-test}
 use Rattle.theory.proofs.DigitLaws.{digit}
@@ -23,10 +23,7 @@ bit-set m q e = omega (arith, eqb-true (digit 2 m q) 1 e)
 pub bit-clear : (m q : ℕ) → bit m q ≡ false → digit 2 m q + 1 < 2
 bit-clear m q e = let n : digit 2 m q ≡ 1 → ⊥ = eqb-false (digit 2 m q) 1 e in omega (arith, digit-lt 2 m q (omega arith))
 
--- the power of two as a shift of 1, and the bit that it has
-pub shifted-one : (x : ℕ) → x < 32 → 1 * 2 ^ x % 2 ^ 32 ≡ 2 ^ x
-shifted-one x h = shl-exact {a = 1} 1 x 32 (omega arith) (omega arith) ∙ omega arith
-
+-- the bit that a power of two has
 pub only-bit : (x : ℕ) → bit (2 ^ x) x ≡ true
 only-bit x = eq-eqb (2 ^ x / 2 ^ x % 2) 1 (rw (div-self (pow-pos x)))
 

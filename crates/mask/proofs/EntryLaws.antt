@@ -1,23 +1,45 @@
--- The rows of an entry: when a walk over them passes, and that one test is that of all.
-use Prim.Native.Nat.{ℕ, zero, suc, _+_, _^_, _≤_, _<_}
+-- The parts of an entry that is made, and the rows of any: when a walk over them passes, and that one test is that of all.
+use Prim.Native.Nat.{ℕ, zero, suc, _+_, _*_, _%_, _^_, _≤_, _<_}
 use mathlib.Core.Path.{_≡_, refl, sym, ap, subst, _∙_}
 use mathlib.Core.Logic.{_≢_}
-use mathlib.Core.Bool.{Bool, true, false, not, _&&_, _||_, cond, true≢false}
+use mathlib.Core.Bool.{Bool, true, false, not, _&&_, _||_, cond, true≢false, or-true}
 use mathlib.Core.List.{_∷_}
 use native.Mathlib.Omega.{arith}
 use native.Mathlib.Decide.{ℕ-discrete}
+use native.Mathlib.Nat.{mod-lt, mod-eq-of-lt}
 use borrow.Author.Tests.{eqb-true, eqb-false, not-true, not-false}
 use lib.Bits.{bitAnd, and-le-l}
 use lib.Dec.{eqb}
+use lib.Pow.{pow-pos, high, low}
 use Rattle.question.specs.Masks.{bit}
 use Rattle.question.proofs.TestLaws.{same-test}
 use Rattle.theory.specs.Rules.{Row, row}
 use Rattle.theory.specs.Sets.{Test, fits}
 use Rattle.theory.specs.Solutions.{allRows}
+use Rattle.row.specs.Rows.{rowOf}
 use Rattle.mask.specs.Least.{meetsRow}
-use Rattle.mask.specs.Entries.{termRoom, testIn, termsIn, rowsFor, rowsOfEntry}
+use Rattle.mask.specs.Lowest.{lowestSet}
+use Rattle.mask.specs.Entries.{termRoom, rowWidth, entryOf, rowIn, testIn, termsIn, rowsFor, rowsOfEntry}
 use Rattle.mask.specs.Tests.{isAsked}
 use Rattle.mask.proofs.BitLaws.{both-true, bit-and, bit-both, bit-of-zero, some-bit}
+
+-- an entry that is made has the row, and the terms that there is room for
+module _ (n terms : ℕ) (word : n < 2 ^ rowWidth) where
+  pub made-row : rowIn (entryOf n terms) ≡ n
+  unfolding entryOf
+  made-row = low (lowestSet (rowOf n .test) * 2 ^ termRoom + terms % 2 ^ termRoom) rowWidth word
+
+  pub made-terms : termsIn (entryOf n terms) ≡ terms % 2 ^ termRoom
+  unfolding entryOf
+  made-terms =
+      let place = lowestSet (rowOf n .test) in
+      ap (λ k. k % 2 ^ termRoom) (high (place * 2 ^ termRoom + terms % 2 ^ termRoom) rowWidth word) ∙ low place termRoom (mod-lt terms (pow-pos termRoom))
+
+  -- so its rows are those of the row's test for these terms
+  pub made-rows : terms < 2 ^ termRoom → rowsOfEntry (entryOf n terms) ≡ rowsFor termRoom 0 terms (rowOf n .test)
+  unfolding rowsOfEntry
+  made-rows small =
+      ap (λ s. rowsFor termRoom 0 s (testIn (entryOf n terms))) (made-terms ∙ mod-eq-of-lt small) ∙ ap (λ k. rowsFor termRoom 0 terms (rowOf k .test)) made-row
 
 -- the walk over the rows of some terms passes exactly if each of them does
 module _ (f : Row Test → Bool) (t : Test) where
@@ -64,12 +86,8 @@ module _ (class : ℕ) (P : Bool) (t : Test) (f : Row Test → Bool) (f-is : (c 
           let both = bit-both terms class (s .0) (s .2) in
           sym (ap (λ x. not x || P) (both .1)) ∙ sym (f-is (s .0)) ∙ rows-each f t termRoom 0 terms h (s .0) (omega arith) (omega (arith, s .1)) (both .0)
 
-      always : (x : Bool) → (x || true) ≡ true
-      always true = refl
-      always false = refl
-
       from : P ≡ true → allRows f (rowsFor termRoom 0 terms t) ≡ true
-      from e = rows-pass f t termRoom 0 terms (λ d lo hi b. f-is d ∙ ap (λ p. not (bit class d) || p) e ∙ always (not (bit class d)))
+      from e = rows-pass f t termRoom 0 terms (λ d lo hi b. f-is d ∙ ap (λ p. not (bit class d) || p) e ∙ or-true (not (bit class d)))
 
 -- an entry is asked of a class that has one of its terms
 module _ (class e : ℕ) where

@@ -9,6 +9,6 @@ pub mod LowestLaws
 pub mod BlameLaws
 pub mod TrialLaws
 pub mod LeastLaws
-pub mod NoteLaws
 pub mod WalkLaws
+pub mod NoteLaws
 pub mod OneResultLaws

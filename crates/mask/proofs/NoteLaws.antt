@@ -13,13 +13,13 @@ use lib.Seq.{getD-set-same, getD-set-other}
 use Rattle.question.specs.Masks.{bit}
 use Rattle.mask.specs.Entries.{testIn, termsIn}
 use Rattle.mask.specs.Lowest.{lowestSet, SameFrom}
-use Rattle.mask.specs.Walks.{MeetsBefore}
 use Rattle.mask.specs.Notes.{EntryAsksFrom, Notes, Noted, NotesBefore}
 use Rattle.mask.specs.Reasons.{raised}
 use Rattle.mask.proofs.RaisedLaws.{raised-above}
 use Rattle.mask.proofs.BitLaws.{bit-clear}
 use Rattle.mask.proofs.EntryLaws.{entry-apart, entry-meets}
 use Rattle.mask.proofs.LowestLaws.{asks-from}
+use Rattle.mask.proofs.WalkLaws.{MeetsBefore}
 
 -- so many times one number: none is larger, and they fall
 at-most : (n v y : ℕ) → getD (replicate n v) y 0 ≤ v

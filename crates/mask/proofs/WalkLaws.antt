@@ -1,7 +1,7 @@
 -- The walk of a mask over the entries: how it ends, and which masks fail where one fails.
 use Prim.Native.Nat.{ℕ, zero, suc, _≤_, _<_}
 use mathlib.Core.Path.{_≡_, refl, sym, ap, _∙_}
-use mathlib.Core.Bool.{Bool, true, false, _&&_, true≢false}
+use mathlib.Core.Bool.{Bool, true, false, _&&_, true≢false, and-false}
 use mathlib.Core.List.{List, [], _∷_}
 use native.Mathlib.Omega.{arith}
 use native.Mathlib.Decide.{ℕ-discrete}
@@ -14,13 +14,17 @@ use Rattle.theory.specs.Solutions.{allRows}
 use Rattle.theory.proofs.ListLaws.{all-append}
 use Rattle.mask.specs.Least.{meetsRow}
 use Rattle.mask.specs.Entries.{testIn, termsIn, rowsOfEntry, rowsOfEntries}
-use Rattle.mask.specs.Walks.{meetsEntry, MeetsBefore}
+use Rattle.mask.specs.Tests.{meetsEntry}
 use Rattle.mask.specs.Reasons.{Agrees}
 use Rattle.mask.specs.Blames.{blamed}
 use Rattle.mask.specs.Trials.{IsDecided}
 use Rattle.mask.proofs.BlameLaws.{blamed-decides}
 use Rattle.mask.proofs.EntryLaws.{entry-apart, entry-meets}
 use Rattle.mask.proofs.LeastLaws.{meetsAll}
+
+-- the mask m meets every entry before i
+abbrev pub MeetsBefore : ℕ → List ℕ → ℕ → ℕ → Type 0
+MeetsBefore class entries m i = (k : ℕ) → k < i → meetsEntry class m (getD entries k 0) ≡ true
 
 -- all entries pass
 all-pass : (f : Row Test → Bool) (entries : List ℕ) → ((k : ℕ) → k < length entries → allRows f (rowsOfEntry (getD entries k 0)) ≡ true) → allRows f (rowsOfEntries entries) ≡ true
@@ -31,11 +35,7 @@ all-pass f (e ∷ es) h = all-append f (rowsOfEntry e) (rowsOfEntries es) ∙ ap
 one-fails : (f : Row Test → Bool) (entries : List ℕ) (i : ℕ) → i < length entries → allRows f (rowsOfEntry (getD entries i 0)) ≡ false → allRows f (rowsOfEntries entries) ≡ false
 one-fails f [] i h e = absurd (omega arith)
 one-fails f (r ∷ rs) zero h e = all-append f (rowsOfEntry r) (rowsOfEntries rs) ∙ ap (λ b. b && allRows f (rowsOfEntries rs)) e
-one-fails f (r ∷ rs) (suc i) h e = all-append f (rowsOfEntry r) (rowsOfEntries rs) ∙ go (allRows f (rowsOfEntry r)) (one-fails f rs i (omega arith) e)
-  where
-    go : (b : Bool) → allRows f (rowsOfEntries rs) ≡ false → (b && allRows f (rowsOfEntries rs)) ≡ false
-    go true p = p
-    go false p = refl
+one-fails f (r ∷ rs) (suc i) h e = all-append f (rowsOfEntry r) (rowsOfEntries rs) ∙ ap (λ b. allRows f (rowsOfEntry r) && b) (one-fails f rs i (omega arith) e) ∙ and-false (allRows f (rowsOfEntry r))
 
 module _ (class : ℕ) where
   -- a mask that agrees on the blamed bits with one that fails the rows of an entry fails them too

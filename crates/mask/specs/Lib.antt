@@ -1,9 +1,8 @@
--- The definitions that the contracts cite: the rows of a class, entries, the walk over them and its notes, then the search with reasons, first for numbers to any base.
+-- The definitions that the contracts cite: the rows of a class, entries and the notes of a walk over them, then the search with reasons, first for numbers to any base.
 pub mod Least
+pub mod Lowest
 pub mod Entries
 pub mod Tests
-pub mod Lowest
-pub mod Walks
 pub mod Notes
 pub mod Reasons
 pub mod Blames

@@ -3,8 +3,8 @@ use Prim.Native.Nat.{ℕ, suc, _^_, _≤_, _<_}
 use mathlib.Core.Path.{_≡_}
 use mathlib.Core.List.{List}
 use lib.ListN.{getD}
+use Rattle.mask.specs.Tests.{meetsEntry}
 use Rattle.mask.specs.Lowest.{SameFrom}
-use Rattle.mask.specs.Walks.{meetsEntry}
 
 -- the entry asks no bit below q: masks that have the same bits from q on both meet it, or both fail it
 abbrev pub EntryAsksFrom : ℕ → ℕ → ℕ → Type 0

@@ -1,4 +1,4 @@
-// The smallest mask of a class of terms, and the lowest set that a row names, by which the search for it goes.
+// Rows that differ only in their term as one entry, and the smallest mask of a class of terms.
 mod bits;
 mod blames;
 mod entries;
@@ -7,8 +7,9 @@ mod masks;
 mod notes;
 mod tests;
 mod trials;
-mod walks;
 
-pub use lowest::lowest_set;
+pub use entries::entry_of;
+pub use entries::row_in;
+pub use entries::terms_in;
 pub use masks::Smallest;
 pub use masks::smallest_mask;

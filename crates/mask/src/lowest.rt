@@ -1,4 +1,5 @@
 // The lowest set that a row names.
+use question::Question;
 use row::unpack;
 ghost use mathlib.Core.Path.{_≡_};
 ghost use Prim.Native.Nat.{min};
@@ -12,8 +13,8 @@ fn smaller(x: u8, y: u8) -> u8
     if x < y { x } else { y }
 }
 
-// The lowest set that the row names, or 16 where it names none.
-pub fn lowest_set(row: u32) -> u8
+// The lowest set that the row names, or as many as there can be where it names none.
+pub(crate) fn lowest_set(row: u32) -> u8
     ensures { λ r. ⌜ r ≡ lowestSet (rowOf row .test) ⌝ }
 {
     let p = unpack(row);
@@ -22,8 +23,8 @@ pub fn lowest_set(row: u32) -> u8
     let y = p.second;
     let z = p.third;
     match kind {
-        0 => 16,
-        1 => 16,
+        0 => Question::MAX_SETS,
+        1 => Question::MAX_SETS,
         2 => x,
         3 => x,
         4 => smaller(x, y),
@@ -32,6 +33,6 @@ pub fn lowest_set(row: u32) -> u8
         7 => smaller(x, smaller(y, z)),
         8 => smaller(x, smaller(y, z)),
         9 => smaller(x, smaller(y, z)),
-        _ => 16,
+        _ => Question::MAX_SETS,
     }
 }

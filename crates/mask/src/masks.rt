@@ -4,9 +4,9 @@ use crate::blames::blame;
 use crate::entries::row_in;
 use crate::notes::back_to;
 use crate::notes::note_up_to;
+use crate::tests::meets;
 use crate::trials::Trial;
 use crate::trials::next_mask;
-use crate::walks::walk;
 ghost use mathlib.Core.Path.{_≡_};
 ghost use Prim.Native.Nat.{_^_, min};
 ghost use Rattle.mask.specs.Least.{leastMask};
@@ -36,12 +36,17 @@ pub fn smallest_mask(entries: &[u64], class: u32, sets: u8) -> Smallest
     let mut first = [u16::MAX; 32];
     let mut noted: usize = 0;
     let mut i: usize = 0;
-    loop {
-        i = walk(entries, class, m, i);
-        if i >= entries.len() {
-            break Smallest::At(m);
-        }
-        let decided = blame(row_in(entries[i]), m);
+    'masks: loop {
+        let decided = 'entries: loop {
+            if i >= entries.len() {
+                break 'masks Smallest::At(m);
+            }
+            let entry = entries[i];
+            if !meets(entry, class, m) {
+                break 'entries blame(row_in(entry), m);
+            }
+            i += 1;
+        };
         match next_mask(m, &mut why, decided, bits) {
             Trial::Next(q) => {
                 m = raise(m, q);
@@ -49,7 +54,7 @@ pub fn smallest_mask(entries: &[u64], class: u32, sets: u8) -> Smallest
                 i = back_to(&first, q, i);
             }
             Trial::Over => {
-                break Smallest::Nothing;
+                break 'masks Smallest::Nothing;
             }
         }
     }

@@ -7,11 +7,8 @@ use row::unpack;
 ghost use mathlib.Core.Path.{_≡_};
 ghost use Rattle.question.specs.Masks.{bit as hasBit};
 ghost use Rattle.theory.specs.Sets.{fits};
-ghost use Rattle.theory.specs.Solutions.{allRows};
 ghost use Rattle.row.specs.Rows.{rowOfParts};
-ghost use Rattle.mask.specs.Least.{meetsRow};
-ghost use Rattle.mask.specs.Entries.{rowsOfEntry};
-ghost use Rattle.mask.specs.Tests.{isAsked, PlacesAreBits};
+ghost use Rattle.mask.specs.Tests.{isAsked, meetsEntry, PlacesAreBits};
 
 // Does a class with the mask m pass the row's test.
 fn passes(p: RowParts, class: u32, m: u32) -> bool
@@ -51,7 +48,7 @@ pub(crate) fn is_asked(entry: u64, class: u32) -> bool
 
 // Does the mask m of a class meet the rows of the entry. If none of their terms is in the class, they are passed over; else one test is that of all.
 pub(crate) fn meets(entry: u64, class: u32, m: u32) -> bool
-    ensures { λ r. ⌜ r ≡ allRows (meetsRow class m) (rowsOfEntry entry) ⌝ }
+    ensures { λ r. ⌜ r ≡ meetsEntry class m entry ⌝ }
 {
     if !is_asked(entry, class) {
         return true;

@@ -1,10 +1,10 @@
--- Packing and unpacking are each other's inverse: on parts within their widths, and on numbers of 20 bits.
+-- Packing and unpacking are each other's inverse: on parts within their widths, and on numbers of so many bits as a row has.
 use Prim.Native.Nat.{ℕ, _+_, _*_, _/_, _%_, _^_, _<_}
 use mathlib.Core.Path.{_≡_}
 use native.Mathlib.Omega.{arith}
 use lib.Pow.{shr-shr, split, shr-mod}
 use Rattle.row.specs.declared.parts.RowParts.{RowParts}
-use Rattle.row.specs.Parts.{placeBits, termBits, kindAt, rowBits, packed, partsOf}
+use Rattle.row.specs.Parts.{placeBits, termBits, termAt, kindAt, rowBits, packed, partsOf}
 
 -- each part is within its width
 pub record WithinWidths (p : RowParts) : Type 0 where
@@ -21,19 +21,19 @@ unpacked p w = rw (kind, term, first, second, third)
     n : ℕ
     n = packed p
 
-    kind : n / 2 ^ 16 % 16 ≡ p .kind
+    kind : n / 2 ^ kindAt % 2 ^ termBits ≡ p .kind
     kind = omega arith
 
-    term : n / 2 ^ 12 % 16 ≡ p .term
+    term : n / 2 ^ termAt % 2 ^ termBits ≡ p .term
     term = omega arith
 
-    first : n / 2 ^ 8 % 16 ≡ p .first
+    first : n / 2 ^ (2 * placeBits) % 2 ^ placeBits ≡ p .first
     first = omega arith
 
-    second : n / 2 ^ 4 % 16 ≡ p .second
+    second : n / 2 ^ placeBits % 2 ^ placeBits ≡ p .second
     second = omega arith
 
-    third : n % 16 ≡ p .third
+    third : n % 2 ^ placeBits ≡ p .third
     third = omega arith
 
 -- what stands left of a place, and the place, make what stands left of the next

@@ -1,4 +1,5 @@
 -- The definitions that the contracts cite.
 pub mod Parts
 pub mod Rows
+pub mod Tests
 pub mod Checks

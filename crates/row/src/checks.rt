@@ -35,7 +35,7 @@ fn places_good(p: RowParts, terms: usize, sets: u8) -> bool
 fn row_good(row: u32, terms: usize, sets: u8) -> bool
     ensures { λ r. ⌜ r ≡ rowGood terms sets row ⌝ }
 {
-    if 1048576 <= row {
+    if RowParts::BOUND <= row {
         return false;
     }
     let p = unpack(row);

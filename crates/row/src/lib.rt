@@ -1,8 +1,10 @@
-// A row as one number of 20 bits: packing and unpacking, and the check of rows that are handed in.
+// A row as one number of 20 bits: packing and unpacking, which rows have one test, and the check of rows that are handed in.
 mod checks;
 mod parts;
+mod tests;
 
 pub use checks::check_rows;
 pub use parts::RowParts;
 pub use parts::pack;
 pub use parts::unpack;
+pub use tests::same_test;

@@ -24,6 +24,16 @@ impl RowParts {
     pub const TERM_AT: u32 = 3 * RowParts::PLACE_BITS;
 
     pub const KIND_AT: u32 = RowParts::TERM_AT + RowParts::TERM_BITS;
+
+    // How many bits a row has, and the first number that has more.
+    pub const BITS: u32 = RowParts::KIND_AT + RowParts::TERM_BITS;
+
+    pub const BOUND: u32 = 1 << RowParts::BITS;
+
+    // How many numbers a place has room for, and how many the term and the kind.
+    pub const PLACE_ROOM: usize = 1 << RowParts::PLACE_BITS;
+
+    pub const TERM_ROOM: usize = 1 << RowParts::TERM_BITS;
 }
 
 // The number with the lowest bits of d behind it on the right.

@@ -1,5 +1,7 @@
 // The other terms that rows ask for.
 use crate::groups::term_alone;
+use mask::row_in;
+use mask::terms_in;
 use row::unpack;
 ghost use mathlib.Core.Bool.{_||_};
 ghost use Prim.Native.Nat.{ℕ, _<_};
@@ -21,8 +23,8 @@ fn asked_besides(terms: u32, d: u8) -> u32
 fn other_asked(entry: u64) -> u32
     ensures { λ r. ⌜ ((c : ℕ) → T (bit (termsIn entry) c) → T (askedKnown asks (bit r) c (testIn entry))) ⌝ }
 {
-    let terms = ((entry >> 32) % 65536) as u32;
-    let p = unpack((entry % 4294967296) as u32);
+    let terms = terms_in(entry);
+    let p = unpack(row_in(entry));
     let kind = p.kind;
     match kind {
         0 => asked_besides(terms, p.first),

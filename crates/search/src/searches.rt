@@ -9,6 +9,7 @@ use crate::models::model;
 use crate::others::others_asked;
 use crate::placings::place;
 use crate::renamings::PLAIN;
+use crate::renamings::ROOM;
 use crate::renamings::back_from;
 use crate::renamings::by_weight;
 use crate::renamings::is_renaming;
@@ -58,7 +59,7 @@ fn search_entries(entries: &[u64], terms: usize, sets: u8) -> SearchAnswer
 // Rows that the check accepts, with new numbers for the sets. The table is room for their entries.
 fn search_renamed(
     rows: &[u32],
-    to: [u8; 16],
+    to: [u8; ROOM],
     table: &mut [u64],
     terms: usize,
     sets: u8,

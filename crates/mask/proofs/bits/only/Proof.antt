@@ -1,6 +1,6 @@
 -- `only` shifts 1 to the place of the bit.
 use borrow.Author.Needs.{needs}
-use Rattle.mask.proofs.BitLaws.{shifted-one}
+use Rattle.row.proofs.BitLaws.{shifted-one}
 use Rattle.mask.proofs.bits.only.Statement.{statement}
 use Rattle.mask.proofs.bits.only.Tie as tie
 

@@ -1,12 +1,10 @@
 -- `places_good` tests the places of each kind: an arm for each, and no kind above 9.
-use Prim.Native.Nat.{ℕ, _≤_}
 use mathlib.Core.Path.{sym}
 use mathlib.Core.Bool.{false}
-use mathlib.Core.Logic.{_≢_}
-use native.Mathlib.Omega.{arith}
 use borrow.Author.Needs.{needs}
 use lib.ListN.{List·getD-eq-default}
 use Rattle.row.specs.Checks.{goodByKind, placesGood}
+use Rattle.row.proofs.KindLaws.{none-of}
 use Rattle.row.proofs.checks.places_good.Statement.{statement}
 use Rattle.row.proofs.checks.places_good.Tie as tie
 
@@ -50,22 +48,12 @@ returns-10 : tie.Need-returns-10
 unfolding placesGood
 returns-10 c = rw (c .match .keys10)
 
-five : (k : ℕ) → k ≢ 0 → k ≢ 1 → k ≢ 2 → k ≢ 3 → k ≢ 4 → 5 ≤ k
-five k a b c d e = omega arith
-
-ten : (k : ℕ) → 5 ≤ k → k ≢ 5 → k ≢ 6 → k ≢ 7 → k ≢ 8 → k ≢ 9 → 10 ≤ k
-ten k h a b c d e = omega arith
-
 returns-11 : tie.Need-returns-11
 unfolding placesGood
 returns-11 c =
     let a = c .before .args in
     let p = a .p in
-    let k = p .kind in
-    let r = c .match .rest in
-    let q = r .0 .0 .0 .0 .0 in
-    let past : 10 ≤ k = ten k (five k (q .0 .0 .0 .0 .1) (q .0 .0 .0 .1) (q .0 .0 .1) (q .0 .1) (q .1)) (r .0 .0 .0 .0 .1) (r .0 .0 .0 .1) (r .0 .0 .1) (r .0 .1) (r .1) in
-    sym (List·getD-eq-default (goodByKind (a .terms) (a .sets) (p .first) (p .second) (p .third)) false {n = k} past)
+    sym (List·getD-eq-default (goodByKind (a .terms) (a .sets) (p .first) (p .second) (p .third)) false {n = p .kind} (none-of 10 (p .kind) (c .match .rest)))
 
 pub places-good-spec : {M : Type 1} → statement M
 places-good-spec =

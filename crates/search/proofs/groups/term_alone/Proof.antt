@@ -1,6 +1,6 @@
 -- `term_alone` shifts 1, which loses no bit.
 use borrow.Author.Needs.{needs}
-use Rattle.mask.proofs.BitLaws.{shifted-one}
+use Rattle.row.proofs.BitLaws.{shifted-one}
 use Rattle.search.proofs.groups.term_alone.Statement.{statement}
 use Rattle.search.proofs.groups.term_alone.Tie as tie
 
