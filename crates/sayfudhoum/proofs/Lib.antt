@@ -7,4 +7,5 @@ pub mod NumberLaws
 pub mod ShownLaws
 pub mod EndToEnd
 pub mod Exactness
+pub mod Program
 pub mod OneOutcomeLaws
