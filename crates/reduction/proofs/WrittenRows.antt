@@ -3,7 +3,7 @@
 use Prim.Native.Nat.{ℕ, _≤_}
 use denote.Ref.{now}
 use mathlib.Core.Path.{_≡_, refl, sym, ap, ap₂, subst, _∙_}
-use mathlib.Core.Bool.{Bool, true, false, cond}
+use mathlib.Core.Bool.{Bool, true, false}
 use mathlib.Core.List.{List, map}
 use mathlib.Core.Logic.{_↔_}
 use native.Mathlib.Omega.{arith}
@@ -24,9 +24,11 @@ use Rattle.theory.specs.Patterns.{HasPattern}
 use Rattle.theory.specs.Solutions.{Solution, IsSolution}
 use Rattle.theory.specs.Sets.{fits}
 use Rattle.theory.specs.Answers.{maskBound}
-use Rattle.theory.specs.Possible.{Possible, Solvable}
+use Rattle.theory.specs.Possible.{Possible}
 use Rattle.theory.proofs.DemandThree.{demand-three}
+use Rattle.outcome.specs.Over.{over}
 use Rattle.outcome.specs.Calls.{Call}
+use Rattle.outcome.proofs.OverLaws.{over-length}
 use Rattle.row.specs.Rows.{rowOf}
 use Rattle.reduction.specs.declared.reducing.Reduced.the-variants.{Rows, Refused}
 use Rattle.reduction.specs.Reducing.{packedRows, reducedThen, reduced, reducedBuffer}
@@ -52,25 +54,25 @@ packed-demand-three q is pattern = (
 not-refused : {A : Type 0} {r : Refusal} {n : ℕ} → Refused r ≡ Rows n → A
 not-refused e = let z : _≡_ {A = ℕ} 0 1 = cc in absurd (omega arith)
 
--- rows are told exactly if the question is accepted and there is room for them
-module _ (q : Question) (room n : ℕ) where
-  told : reduced q room ≡ Rows n → IsAccepted q × (n ≡ length (packedRows q)) × (n ≤ room)
-  unfolding reduced
-  told e = go (checked q) (ltb room (length (packedRows q))) refl refl e
-    where
-      go : (t : TableCheck) (short : Bool) → checked q ≡ t → ltb room (length (packedRows q)) ≡ short → reducedThen t (length (packedRows q)) room ≡ Rows n → IsAccepted q × (n ≡ length (packedRows q)) × (n ≤ room)
-      go (TableRefused r) short p s e = not-refused e
-      go Accepted true p s e = let no : Refused (refusal bufferTooShort 0) ≡ Rows n = rw s at e in not-refused no
-      go Accepted false p s e =
-          let same : Rows (length (packedRows q)) ≡ Rows n = rw s at e in
-          let count : n ≡ length (packedRows q) = cc in
-          (accepted q .0 p, count, omega (arith, ltb-false room (length (packedRows q)) s))
+-- rows are told of an accepted question alone, all of them, and where there is room
+pub rows-told : (q : Question) (room n : ℕ) → reduced q room ≡ Rows n → IsAccepted q × (n ≡ length (packedRows q)) × (n ≤ room)
+unfolding reduced
+rows-told q room n e = go (checked q) (ltb room (length (packedRows q))) refl refl e
+  where
+    go : (t : TableCheck) (short : Bool) → checked q ≡ t → ltb room (length (packedRows q)) ≡ short → reducedThen t (length (packedRows q)) room ≡ Rows n → IsAccepted q × (n ≡ length (packedRows q)) × (n ≤ room)
+    go (TableRefused r) short p s e = not-refused e
+    go Accepted true p s e = let no : Refused (refusal bufferTooShort 0) ≡ Rows n = rw s at e in not-refused no
+    go Accepted false p s e =
+        let same : Rows (length (packedRows q)) ≡ Rows n = rw s at e in
+        let count : n ≡ length (packedRows q) = cc in
+        (accepted q .0 p, count, omega (arith, ltb-false room (length (packedRows q)) s))
 
--- the rows stand at the front of the buffer
-pub rows-stand : (q : Question) (old : List ℕ) (n : ℕ) → reduced q (length old) ≡ Rows n → take n (reducedBuffer q old) ≡ packedRows q
-rows-stand q old n e =
-    let t = told q (length old) n e in
-    ap₂ take (t .1) (rows-buffer q old (t .0) (omega (arith, t .1, t .2))) ∙ take-append-seam (packedRows q) _
+-- they stand at the front of the buffer
+pub rows-stand : (q : Question) (old new : List ℕ) (n : ℕ) → new ≡ reducedBuffer q old → reduced q (length old) ≡ Rows n → (n ≤ length new) × (take n new ≡ packedRows q)
+rows-stand q old new n b e =
+    let t = rows-told q (length old) n e in
+    let whole : new ≡ over (packedRows q) old = b ∙ rows-buffer q old (t .0) (omega (arith, t .1, t .2)) in
+    (rw whole (omega (arith, t .1, t .2, over-length (packedRows q) old (omega (arith, t .1, t .2)))), ap₂ take (t .1) whole ∙ take-append-seam (packedRows q) _)
 
 -- a call of `reduce`
 module _ (c : Call reduce.Learnt) where
@@ -87,12 +89,11 @@ module _ (c : Call reduce.Learnt) where
   -- it gives back n rows exactly if the question is accepted, has n rows, and the buffer has room for them: else it is refused
   pub reduces-exactly : (n : ℕ) → (c .result ≡ Rows n) ↔ (IsAccepted question × (n ≡ length (packedRows question)) × (n ≤ length old))
   reduces-exactly n = (
-    λ e. told question (length old) n (sym (c .fits .0) ∙ e),
+    λ e. rows-told question (length old) n (sym (c .fits .0) ∙ e),
     λ t. c .fits .0 ∙ rows-answer question old (t .0) (omega (arith, t .1, t .2)) ∙ ap Rows (sym (t .1)),
   )
 
   -- the first n numbers of its buffer, as rows, are solvable with a pattern exactly if some assignment with that pattern meets the statements
   pub reduced-demand-three : (n : ℕ) → c .result ≡ Rows n → (pattern : ℕ → ℕ → Bool) → Possible question pattern ↔ RowsSolvable question (take n new) pattern
   reduced-demand-three n e pattern =
-      let written : take n new ≡ packedRows question = ap (take n) (c .fits .1) ∙ rows-stand question old n (sym (c .fits .0) ∙ e) in
-      rw written (packed-demand-three question (reduces-exactly n .0 e .0) pattern)
+      rw (rows-stand question old new n (c .fits .1) (sym (c .fits .0) ∙ e) .1) (packed-demand-three question (reduces-exactly n .0 e .0) pattern)
