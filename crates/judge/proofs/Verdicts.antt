@@ -1,6 +1,6 @@
--- What a judgement means: yes exactly if question and model are sound and every statement holds; no at the first statement that fails.
+-- What a judgement means: yes exactly if question and model are sound and every statement holds; no exactly at the first statement that fails.
 use Prim.Native.Nat.{ℕ, zero, suc, _+_, _<_, zero-le}
-use mathlib.Core.Path.{_≡_, refl, sym, subst}
+use mathlib.Core.Path.{_≡_, refl, sym, ap, subst}
 use mathlib.Core.Bool.{Bool, true, false, _&&_, cond}
 use mathlib.Core.List.{List, [], _∷_}
 use mathlib.Core.Logic.{_↔_}
@@ -24,19 +24,20 @@ use Rattle.judge.specs.declared.models.Model.{Model}
 use Rattle.judge.specs.declared.judging.Judgement.the-variants.{Yes, No, Refused}
 use Rattle.judge.specs.Models.{assigned, elementsInside, masksInside, isModel}
 use Rattle.outcome.specs.Checks.{acceptedThen}
+use Rattle.outcome.proofs.Never.{never}
 use Rattle.judge.specs.Judgements.{firstFailing, modelJudged, judged}
 
 no-yes : {A : Type 0} {i : ℕ} → No i ≡ Yes → A
-no-yes e = let z : _≡_ {A = ℕ} 0 1 = cc in absurd (omega arith)
+no-yes e = never cc
 
 refused-yes : {A : Type 0} {r : Refusal} → Refused r ≡ Yes → A
-refused-yes e = let z : _≡_ {A = ℕ} 0 1 = cc in absurd (omega arith)
+refused-yes e = never cc
 
 yes-no : {A : Type 0} {i : ℕ} → Yes ≡ No i → A
 yes-no e = no-yes (sym e)
 
 refused-no : {A : Type 0} {r : Refusal} {i : ℕ} → Refused r ≡ No i → A
-refused-no e = let z : _≡_ {A = ℕ} 0 1 = cc in absurd (omega arith)
+refused-no e = never cc
 
 -- the statement at the index i is the first that fails
 pub record FirstToFail (A : Assignment) (ss : List Statement) (i : ℕ) : Type 0 where
@@ -81,6 +82,15 @@ module _ (A : Assignment) where
       go true p e r = let l = r e in later (l .0) p (l .1) (l .2)
       go false p e r = let same : i ≡ k = cc in (0, omega arith, record { within = omega arith; fails = p; earlier = λ h l. absurd (omega arith) })
 
+  -- and it finds the first that fails
+  first-found : (i : ℕ) (ss : List Statement) (k j : ℕ) → k ≡ i + j → FirstToFail A ss j → firstFailing (holds A) i ss ≡ No k
+  unfolding firstFailing
+  first-found i [] k j e f = absurd (omega (arith, f .within))
+  first-found i (s ∷ ss) k zero e f = rw (f .fails) (ap No (omega arith))
+  first-found i (s ∷ ss) k (suc j) e f =
+      rw (f .earlier 0 (omega arith))
+      (first-found (suc i) ss k j (omega arith) (record { within = omega (arith, f .within); fails = f .fails; earlier = λ h l. f .earlier (suc h) (omega arith) }))
+
 -- a model is an assignment
 pub model-assigns : (E S : ℕ) (m : Model) → isModel E S m ≡ true → IsAssignment E (assigned m)
 unfolding isModel elementsInside
@@ -113,17 +123,33 @@ module _ (q : Question) (m : Model) where
   unfolding judged modelJudged
   judged-yes h = rw (accepted q .1 (h .question-accepted), h .model) (hold-all (assigned m) 0 (statements q) (h .all-hold))
 
+  -- yes exactly if every statement holds
   pub yes-means : (judged q m ≡ Yes) ↔ Sound
   yes-means = (sound, judged-yes)
 
-  pub no-means : (i : ℕ) → judged q m ≡ No i → FirstToFail (assigned m) (statements q) i
+  -- the question is accepted, the model is one for its names, and the statement at the index i is the first that fails
+  pub record FailsAt (i : ℕ) : Type 0 where
+    pub question-accepted : IsAccepted q
+    pub model : isModel (q .elements) (q .sets) m ≡ true
+    pub first : FirstToFail (assigned m) (statements q) i
+
+  fails-at : (i : ℕ) → judged q m ≡ No i → FailsAt i
   unfolding judged modelJudged
-  no-means i e = go (checked q) (isModel (q .elements) (q .sets) m) e
+  fails-at i e = go (checked q) (isModel (q .elements) (q .sets) m) refl refl e
     where
-      go : (t : Check) (b : Bool) → acceptedThen t Refused (cond b (firstFailing (holds (assigned m)) 0 (statements q)) (Refused (refusal badModel 0))) ≡ No i → FirstToFail (assigned m) (statements q) i
-      go (TableRefused r) b e = refused-no e
-      go Accepted false e = refused-no e
-      go Accepted true e =
+      go : (t : Check) (b : Bool) → checked q ≡ t → isModel (q .elements) (q .sets) m ≡ b →
+          acceptedThen t Refused (cond b (firstFailing (holds (assigned m)) 0 (statements q)) (Refused (refusal badModel 0))) ≡ No i → FailsAt i
+      go (TableRefused r) b p g e = refused-no e
+      go Accepted false p g e = refused-no e
+      go Accepted true p g e =
           let f = first-of (assigned m) 0 (statements q) i e in
           let same : f .0 ≡ i = omega (arith, f .1) in
-          subst (FirstToFail (assigned m) (statements q)) same (f .2)
+          record { question-accepted = accepted q .0 p; model = g; first = subst (FirstToFail (assigned m) (statements q)) same (f .2) }
+
+  judged-no : (i : ℕ) → FailsAt i → judged q m ≡ No i
+  unfolding judged modelJudged
+  judged-no i h = rw (accepted q .1 (h .question-accepted), h .model) (first-found (assigned m) 0 (statements q) i i (omega arith) (h .first))
+
+  -- no at the index i exactly if that statement is the first that fails
+  pub no-means : (i : ℕ) → (judged q m ≡ No i) ↔ FailsAt i
+  no-means i = (fails-at i, judged-no i)

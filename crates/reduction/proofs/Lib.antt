@@ -2,4 +2,5 @@
 pub mod WritingLaws
 pub mod ReducingLaws
 pub mod ReducedRows
+pub mod WrittenRows
 pub mod OneOutcomeLaws

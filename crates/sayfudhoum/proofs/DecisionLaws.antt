@@ -1,14 +1,13 @@
 -- A decision is what the search finds in the question's rows, and what the search finds there is the answer.
 use Prim.Native.Nat.{ℕ, _≤_}
-use mathlib.Core.Path.{_≡_, refl, sym, ap, ap₂, _∙_}
+use mathlib.Core.Path.{_≡_, refl, sym, ap, _∙_}
 use mathlib.Core.Bool.{Bool, true, false, cond}
-use mathlib.Core.List.{List, map}
+use mathlib.Core.List.{map}
 use mathlib.Core.Option.{Option, none, some}
 use native.Mathlib.Omega.{arith}
 use borrow.Author.Tests.{ltb-true}
 use lib.Dec.{ltb}
-use lib.ListN.{length, take}
-use lib.Seq.{take-append-seam}
+use lib.ListN.{length}
 use Rattle.outcome.specs.declared.refusals.Refusal.{Refusal}
 use Rattle.question.specs.declared.questions.Question.{Question}
 use Rattle.outcome.specs.declared.checks.Check.{Check}
@@ -19,16 +18,14 @@ use Rattle.question.specs.Questions.{termsOf}
 use Rattle.question.specs.Checks.{checked}
 use Rattle.question.proofs.AcceptedLaws.{accepted}
 use Rattle.outcome.proofs.Never.{never}
-use Rattle.outcome.specs.Writes.{over}
-use Rattle.outcome.proofs.OverLaws.{over-length}
 use Rattle.theory.specs.Solutions.{Solution}
 use Rattle.theory.specs.FirstModels.{firstModel}
 use Rattle.theory.specs.Sets.{fits}
 use Rattle.theory.specs.Answers.{maskBound, answer}
 use Rattle.row.specs.Rows.{rowOf}
 use Rattle.outcome.specs.declared.writes.Written.the-variants.{Count, Refused as NotReduced}
-use Rattle.reduction.specs.Reducing.{packedRows, reducedThen, reduced, reducedOver}
-use Rattle.reduction.proofs.ReducingLaws.{packed-few, rows-buffer}
+use Rattle.reduction.specs.Reducing.{packedRows, reducedThen, reduced}
+use Rattle.reduction.proofs.ReducingLaws.{packed-few}
 use Rattle.reduction.proofs.ReducedRows.{rows-pass, rows-say}
 use Rattle.search.specs.Answers.{answerOf, searched}
 use Rattle.search.proofs.SearchedLaws.{searched-accepted}
@@ -44,17 +41,8 @@ module _ (q : Question) where
   unfolding decided
   decided-refused r e = ap (λ t. decidedThen t (asAnswer (answer q))) e
 
-  -- what a reduction tells, where there is room for as many rows as any question has
+  -- where there is room for as many rows as any question has, a reduction is refused only by the table
   module _ (room : ℕ) (enough : maxRows ≤ room) where
-    pub rows-told : (n : ℕ) → reduced q room ≡ Count n → (checked q ≡ Accepted) × (n ≡ length (packedRows q))
-    unfolding reduced
-    rows-told n e = go (checked q) (ltb room (length (packedRows q))) refl refl e
-      where
-        go : (t : Check) (b : Bool) → checked q ≡ t → ltb room (length (packedRows q)) ≡ b → reducedThen t (length (packedRows q)) room ≡ Count n → (checked q ≡ Accepted) × (n ≡ length (packedRows q))
-        go (RefusedTable r) b p s e = never cc
-        go Accepted true p s e = let f = packed-few q (accepted q .0 p) in absurd (omega (arith, f, ltb-true room (length (packedRows q)) s))
-        go Accepted false p s e = let same : Count (length (packedRows q)) ≡ Count n = sym (ap (λ b. cond b (NotReduced (refusal bufferTooShort 0)) (Count (length (packedRows q)))) s) ∙ e in (p, (cc))
-
     pub refusal-told : (r : Refusal) → reduced q room ≡ NotReduced r → checked q ≡ RefusedTable r
     unfolding reduced
     refusal-told r e = go (checked q) (ltb room (length (packedRows q))) refl refl e
@@ -64,16 +52,7 @@ module _ (q : Question) where
         go Accepted true p s e = let f = packed-few q (accepted q .0 p) in absurd (omega (arith, f, ltb-true room (length (packedRows q)) s))
         go Accepted false p s e = let same : Count (length (packedRows q)) ≡ NotReduced r = sym (ap (λ b. cond b (NotReduced (refusal bufferTooShort 0)) (Count (length (packedRows q)))) s) ∙ e in never cc
 
-  -- the rows stand at the front of the buffer
-  pub rows-stand : (old new : List ℕ) (n : ℕ) → maxRows ≤ length old → new ≡ reducedOver q old → reduced q (length old) ≡ Count n → (n ≤ length new) × (take n new ≡ packedRows q)
-  rows-stand old new n enough b e =
-      let t = rows-told (length old) enough n e in
-      let is = accepted q .0 (t .0) in
-      let few = packed-few q is in
-      let whole : new ≡ over (packedRows q) old = b ∙ rows-buffer q old is (omega (arith, few)) in
-      (rw whole (omega (arith, few, t .1, over-length (packedRows q) old (omega (arith, few)))), ap₂ take (t .1) whole ∙ take-append-seam (packedRows q) _)
-
-  -- what is found in them is the answer
+  -- what is found in its rows is the answer
   module _ (e : checked q ≡ Accepted) where
     found-answer : searched (termsOf q) (q .sets) (packedRows q) ≡ answerOf (answer q)
     unfolding answer

@@ -6,4 +6,6 @@ pub mod NumberLaws
 -- What the two calls are worth, and what the contracts leave:
 pub mod ShownLaws
 pub mod EndToEnd
+pub mod Exactness
+pub mod Program
 pub mod OneOutcomeLaws

@@ -4,10 +4,12 @@ use mathlib.Core.Path.{_≡_, sym, ap, ap₂, _∙_}
 use native.Mathlib.Omega.{arith}
 use borrow.Author.Needs.{needs}
 use lib.ListN.{length, take}
+use Rattle.question.proofs.AcceptedLaws.{accepted}
 use Rattle.reduction.specs.Reducing.{packedRows}
+use Rattle.reduction.proofs.WrittenRows.{rows-told, rows-stand}
 use Rattle.search.specs.Answers.{searched}
 use Rattle.sayfudhoum.specs.Decisions.{shown}
-use Rattle.sayfudhoum.proofs.DecisionLaws.{decided-refused, rows-told, refusal-told, rows-stand, shown-decided}
+use Rattle.sayfudhoum.proofs.DecisionLaws.{decided-refused, refusal-told, shown-decided}
 use Rattle.sayfudhoum.proofs.decisions.decide.Statement.{statement}
 use Rattle.sayfudhoum.proofs.decisions.decide.Tie as tie
 
@@ -16,7 +18,7 @@ stand : (c : tie.After-known-told2) → let r = c .before .before .before .befor
     (c .before .count .given .0 .0 ≤ length (r .last .1 .0)) × (take (c .before .count .given .0 .0) (r .last .1 .0) ≡ packedRows (c .before .before .before .before .before .before .args .q))
 stand c =
     let r = c .before .before .before .before .reduce in
-    rows-stand _ _ _ _ (omega arith) (r .ensures .1) (sym (r .ensures .0) ∙ c .before .count .given .1)
+    rows-stand _ _ _ _ (r .ensures .1) (sym (r .ensures .0) ∙ c .before .count .given .1)
 
 returns : tie.Need-returns
 returns c = c .refuse .ensures ∙ sym (decided-refused _ _ (refusal-told _ _ (omega arith) _ (sym (c .before .before .before .before .before .reduce .ensures .0) ∙ c .before .before .refusal .given .1)))
@@ -26,11 +28,11 @@ returns-2 c =
     let k = c .before .before .before .before .before in
     let r = k .before .before .before .before .reduce in
     let q = k .before .before .before .before .before .before .args .q in
-    let is = rows-told q _ (omega arith) _ (sym (r .ensures .0) ∙ k .before .count .given .1) .0 in
+    let is = rows-told q _ _ (sym (r .ensures .0) ∙ k .before .count .given .1) .0 in
     let n = k .before .count .given .0 .0 in
     let size : n - 0 ≡ n = omega arith in
     let found = c .before .search .ensures ∙ ap₂ (λ t l. searched t (q .sets) l) (c .before .before .terms .ensures) (ap (λ i. take i (r .last .1 .0)) size ∙ stand k .1) in
-    c .show .ensures ∙ ap shown found ∙ shown-decided q is
+    c .show .ensures ∙ ap shown found ∙ shown-decided q (accepted q .1 is)
 
 pub decide-spec : {M : Type 1} → statement M
 decide-spec =
