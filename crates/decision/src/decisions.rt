@@ -1,17 +1,16 @@
 // A question value to its answer: the table is reduced to rows, and the rows are searched.
 use answer::Answer;
-use answer::Verdict;
 use outcome::Check;
 use outcome::Refusal;
+use outcome::Verdict;
 use outcome::Written;
 use question::Question;
 use question::terms;
 use reduction::reduce;
 use search::SearchAnswer;
-use search::Verdict as Found;
 use search::search;
 ghost use mathlib.Core.Path.{_≡_};
-ghost use Rattle.sayfudhoum.specs.Decisions.{undecided, shown, decided};
+ghost use Rattle.decision.specs.Decisions.{undecided, shown, decided};
 
 // Whether the question is decided, and its answer. Where it is refused the answer is a filler, which never says "impossible".
 pub struct Decision {
@@ -19,31 +18,36 @@ pub struct Decision {
     pub answer: Answer,
 }
 
-pub(crate) fn refuse(refusal: Refusal) -> Decision
-    ensures { λ r. ⌜ r ≡ undecided refusal ⌝ }
-{
-    let filler = Answer {
-        verdict: Verdict::Possible,
-        arrangement: [0; 12],
-        masks: [0; 12],
-    };
-    Decision {
-        outcome: Check::Refused(refusal),
-        answer: filler,
+impl Decision {
+    // Why there is no decision.
+    pub fn refused(refusal: Refusal) -> Decision
+        ensures { λ r. ⌜ r ≡ undecided refusal ⌝ }
+    {
+        let filler = Answer {
+            verdict: Verdict::Possible,
+            arrangement: [0; Question::MAX_TERMS],
+            masks: [0; Question::MAX_TERMS],
+        };
+        Decision {
+            outcome: Check::Refused(refusal),
+            answer: filler,
+        }
     }
 }
 
-// What the search found, as a decision.
+// What the search says, as a decision.
 fn show(found: SearchAnswer) -> Decision
     ensures { λ r. ⌜ r ≡ shown found ⌝ }
 {
-    let verdict = found.verdict;
-    match verdict {
-        Found::Possible => {
+    let outcome = found.outcome;
+    match outcome {
+        Check::Refused(refusal) => Decision::refused(refusal),
+        Check::Accepted => {
+            let verdict = found.verdict;
             let arrangement = found.arrangement;
             let masks = found.masks;
             let answer = Answer {
-                verdict: Verdict::Possible,
+                verdict: verdict,
                 arrangement: arrangement,
                 masks: masks,
             };
@@ -52,14 +56,6 @@ fn show(found: SearchAnswer) -> Decision
                 answer: answer,
             }
         }
-        Found::Impossible => {
-            let answer = Answer::impossible();
-            Decision {
-                outcome: Check::Accepted,
-                answer: answer,
-            }
-        }
-        Found::Refused(refusal) => refuse(refusal),
     }
 }
 
@@ -67,9 +63,9 @@ fn show(found: SearchAnswer) -> Decision
 pub fn decide(q: Question) -> Decision
     ensures { λ r. ⌜ r ≡ decided q ⌝ }
 {
-    let mut rows: [u32; 768] = [0; 768];
+    let mut rows: [u32; Question::MAX_ROWS] = [0; Question::MAX_ROWS];
     match reduce(q, &mut rows) {
-        Written::Refused(refusal) => refuse(refusal),
+        Written::Refused(refusal) => Decision::refused(refusal),
         Written::Count(count) => {
             let found = search(&rows[0..count], terms(q), q.sets);
             show(found)

@@ -7,7 +7,11 @@ use mathlib.Core.Option.{Option, none, some}
 use native.Mathlib.Omega.{arith}
 use lib.ListN.{length}
 use Rattle.question.specs.declared.questions.Question.{Question}
-use Rattle.outcome.specs.declared.checks.Check.the-variants.{Accepted}
+use Rattle.outcome.specs.declared.refusals.Refusal.{Refusal}
+use Rattle.outcome.specs.declared.checks.Check.the-variants.{Accepted, Refused}
+use Rattle.outcome.specs.declared.writes.Written.the-variants.{Refused as NotWritten}
+use Rattle.answer.specs.declared.answers.Answer.{Answer}
+use Rattle.decision.specs.Answers.{questionAnswered, questionAnsweredOver}
 use Rattle.question.specs.Questions.{termsOf}
 use Rattle.question.specs.Checks.{checked}
 use Rattle.question.proofs.AcceptedLaws.{accepted}
@@ -53,3 +57,18 @@ module _ (q : Question) (e : checked q ≡ Accepted) where
   pub answer-over : (old : List ℕ) → writtenOver q (asAnswer (answer q)) old ≡ fittedOver (fileOf (answer q)) old
   unfolding writtenOver goodOver
   answer-over old = rw (e, says, good)
+
+-- what is answered to a question, and the buffer, by whether its table is accepted
+module _ (q : Question) where
+  pub answered-accepted : (old : List ℕ) → checked q ≡ Accepted → (questionAnswered q (length old) ≡ fitted (fileOf (answer q)) (length old)) × (questionAnsweredOver q old ≡ fittedOver (fileOf (answer q)) old)
+  unfolding questionAnswered questionAnsweredOver
+  answered-accepted old e = rw e (refl, refl)
+
+  pub answered-refused : (old : List ℕ) (r : Refusal) → checked q ≡ Refused r → (questionAnswered q (length old) ≡ NotWritten r) × (questionAnsweredOver q old ≡ old)
+  unfolding questionAnswered questionAnsweredOver
+  answered-refused old r e = rw e (refl, refl)
+
+  -- whatever answer stands beside it, a refused question's is not written
+  pub refused-written : (a : Answer) (old : List ℕ) (r : Refusal) → checked q ≡ Refused r → (written q a (length old) ≡ NotWritten r) × (writtenOver q a old ≡ old)
+  unfolding written writtenOver
+  refused-written a old r e = rw e (refl, refl)

@@ -8,10 +8,10 @@ use Rattle.question.proofs.AcceptedLaws.{accepted}
 use Rattle.reduction.specs.Reducing.{packedRows}
 use Rattle.reduction.proofs.WrittenRows.{rows-told, rows-stand}
 use Rattle.search.specs.Answers.{searched}
-use Rattle.sayfudhoum.specs.Decisions.{shown}
-use Rattle.sayfudhoum.proofs.DecisionLaws.{decided-refused, refusal-told, shown-decided}
-use Rattle.sayfudhoum.proofs.decisions.decide.Statement.{statement}
-use Rattle.sayfudhoum.proofs.decisions.decide.Tie as tie
+use Rattle.decision.specs.Decisions.{shown}
+use Rattle.decision.proofs.DecisionLaws.{decided-refused, refusal-told, shown-decided}
+use Rattle.decision.proofs.decisions.decide.Statement.{statement}
+use Rattle.decision.proofs.decisions.decide.Tie as tie
 
 -- the rows of the question stand at the front of the buffer
 stand : (c : tie.After-known-told2) → let r = c .before .before .before .before .reduce in

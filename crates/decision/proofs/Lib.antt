@@ -1,0 +1,4 @@
+-- Laws that belong to no one function.
+pub mod DecisionLaws
+pub mod AnsweredLaws
+pub mod OneOutcomeLaws
