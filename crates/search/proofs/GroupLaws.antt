@@ -1,4 +1,4 @@
--- The terms of each class: at the start, with one term more placed, and how large the sets are.
+-- The terms of each class: at the start, with one term more placed, and how large the groups are.
 use Prim.Native.Nat.{ℕ, _+_, _^_, _≤_, _<_}
 use mathlib.Core.Path.{_≡_, refl, sym, ap, _∙_}
 use mathlib.Core.List.{List, [], _∷_, _++_}
@@ -42,7 +42,7 @@ groups-more arrangement groups t inside lt of next is = record {
     c : ℕ
     c = getD arrangement t 0
 
--- a set has only terms that come before
+-- a group has only terms that come before
 pub group-small : (arrangement groups : List ℕ) (t : ℕ) → t ≤ length arrangement → GroupsOf arrangement t groups → (k : ℕ) → k < maxTerms → getD groups k 0 < 2 ^ t
 group-small arrangement groups t le of k lt = omega (arith, of .are k lt, members-below k (take t arrangement), ap (λ n. 2 ^ n) (length-take-le t arrangement le))
 
@@ -50,7 +50,7 @@ pub groups-none : (arrangement : List ℕ) → GroupsOf arrangement 0 (padded []
 groups-none arrangement = record { long = refl; are = λ k lt. zero-entry k lt }
 
 module _ {arrangement groups : List ℕ} {placed used : ℕ} (here : Placing arrangement placed used) (of : GroupsOf arrangement placed groups) where
-  -- a set has only terms that are placed
+  -- a group has only terms that are placed
   pub group-below : (k : ℕ) → k < maxTerms → getD groups k 0 < 2 ^ placed
   group-below k lt = group-small arrangement groups placed (omega (arith, here .long, here .few-terms)) of k lt
 

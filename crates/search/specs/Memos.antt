@@ -10,7 +10,7 @@ use Rattle.question.specs.Limits.{maxTerms}
 use Rattle.mask.specs.Entries.{rowsOfEntries}
 use Rattle.mask.specs.Least.{leastMask}
 
--- the smallest mask of a class, a set of terms
+-- the smallest mask of a class, a group of terms
 abbrev pub maskOfClass : List ℕ → ℕ → ℕ → Option ℕ
 maskOfClass entries sets class = leastMask (2 ^ sets) (rowsOfEntries entries) class
 
@@ -24,11 +24,11 @@ abbrev pub noted : Option ℕ → ℕ
 noted none = 1
 noted (some m) = 2
 
--- how many sets of terms there are
-abbrev pub classCount : ℕ
-classCount = 2 ^ maxTerms
+-- how many groups of terms there are
+abbrev pub groupCount : ℕ
+groupCount = 2 ^ maxTerms
 
 -- what is noted, at the number of a class, is right
 pub record Memo (entries : List ℕ) (sets : ℕ) (memo : List ℕ) : Type 0 where
-  pub long : length memo ≡ classCount
+  pub long : length memo ≡ groupCount
   pub right : (class : ℕ) → getD memo class 0 ≢ 0 → getD memo class 0 ≡ noted (maskOfClass entries sets class)

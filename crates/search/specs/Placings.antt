@@ -19,7 +19,7 @@ pub record Placing (arrangement : List ℕ) (placed used : ℕ) : Type 0 where
   pub counted : used ≡ classes (take placed arrangement)
   pub rest-zero : drop placed arrangement ≡ replicate (maxTerms - placed) 0
 
--- the array has the terms of each class, as a set
+-- the array has the terms of each class, as a group
 pub record GroupsOf (arrangement : List ℕ) (placed : ℕ) (groups : List ℕ) : Type 0 where
   pub long : length groups ≡ maxTerms
   pub are : (k : ℕ) → k < maxTerms → getD groups k 0 ≡ members (take placed arrangement) k

@@ -1,4 +1,4 @@
-// Sets of terms: one term's, and those that stand for classes.
+// Groups of terms: one term's, and those that stand for classes.
 ghost use mathlib.Core.Path.{_≡_};
 ghost use Prim.Native.Nat.{ℕ, _^_, _≤_, _<_};
 ghost use lib.Bits.{bitOr};
@@ -7,15 +7,15 @@ ghost use Rattle.question.specs.Limits.{maxTerms};
 ghost use Rattle.question.specs.Masks.{bit};
 ghost use Rattle.search.specs.Placings.{GroupsOf};
 
-// Is the term in the set.
-pub(crate) fn has_term(set: u32, term: usize) -> bool
+// Is the term in the group.
+pub(crate) fn has_term(group: u32, term: usize) -> bool
     requires { ⌜ term < 32 ⌝ }
-    ensures { λ r. ⌜ r ≡ bit set term ⌝ }
+    ensures { λ r. ⌜ r ≡ bit group term ⌝ }
 {
-    (set >> (term as u32)) % 2 == 1
+    (group >> (term as u32)) % 2 == 1
 }
 
-// The set of one term.
+// The group of one term.
 pub(crate) fn term_alone(term: usize) -> u32
     requires { ⌜ term < 32 ⌝ }
     ensures { λ r. ⌜ r ≡ 2 ^ term ⌝ }
@@ -23,7 +23,7 @@ pub(crate) fn term_alone(term: usize) -> u32
     1 << (term as u32)
 }
 
-// The sets with a term in that of the class.
+// The groups with a term in that of the class.
 pub(crate) fn with_term(groups: [u32; 12], class: u8, term: usize) -> [u32; 12]
     requires { ⌜ (class < maxTerms) × (term < maxTerms) ⌝ }
     ensures { λ r. ⌜ r ≡ set groups class (bitOr (getD groups class 0) (2 ^ term)) ⌝ }
@@ -35,8 +35,8 @@ pub(crate) fn with_term(groups: [u32; 12], class: u8, term: usize) -> [u32; 12]
     next
 }
 
-// The sets with a new one, of one term.
-pub(crate) fn with_set(groups: [u32; 12], class: u8, term: usize) -> [u32; 12]
+// The groups with a new one, of one term.
+pub(crate) fn with_group(groups: [u32; 12], class: u8, term: usize) -> [u32; 12]
     requires { ⌜ (class < maxTerms) × (term < maxTerms) ⌝ }
     ensures { λ r. ⌜ r ≡ set groups class (2 ^ term) ⌝ }
 {
@@ -46,7 +46,7 @@ pub(crate) fn with_set(groups: [u32; 12], class: u8, term: usize) -> [u32; 12]
     next
 }
 
-// The sets of the classes of a whole arrangement.
+// The groups of the classes of a whole arrangement.
 pub(crate) fn groups_of(arrangement: [u8; 12], terms: usize) -> [u32; 12]
     requires { ⌜ (terms ≤ maxTerms) × ((t : ℕ) → t < terms → getD arrangement t 0 < maxTerms) ⌝ }
     ensures { λ r. ⌜ GroupsOf arrangement terms r ⌝ }

@@ -1,14 +1,14 @@
 // The search: rows that are handed in are checked, and then their first model is found, or that there is none.
 mod answers;
+mod asked;
 mod entries;
 mod fittings;
 mod groups;
 mod memos;
 mod models;
-mod others;
 mod placings;
 mod renamings;
-mod rests;
+mod rest_fittings;
 mod searches;
 
 pub use answers::SearchAnswer;

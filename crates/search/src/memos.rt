@@ -4,13 +4,13 @@ use mask::smallest_mask;
 ghost use mathlib.Core.Path.{_≡_};
 ghost use Prim.Native.Nat.{_≤_, _<_};
 ghost use Rattle.question.specs.Limits.{maxSets};
-ghost use Rattle.search.specs.Memos.{maskOfClass, isThere, classCount, Memo};
+ghost use Rattle.search.specs.Memos.{maskOfClass, isThere, groupCount, Memo};
 
-// A class is a set of terms, and the memo has a byte for each.
+// A class is a group of terms, and the memo has a byte for each.
 pub(crate) fn has_mask(entries: &[u64], memo: &mut [u8], class: u32, sets: u8) -> bool
     requires { ⌜ sets ≤ maxSets ⌝ }
     requires { ⌜ Memo (now entries) sets (now memo) ⌝ }
-    requires { ⌜ class < classCount ⌝ }
+    requires { ⌜ class < groupCount ⌝ }
     ensures { λ r. ⌜ r ≡ isThere (maskOfClass (now (entries .entry)) sets class) ⌝ }
     ensures { λ r. ⌜ Memo (now (entries .entry)) sets (now (memo .exit)) ⌝ }
 {

@@ -17,7 +17,7 @@ ghost use Rattle.search.specs.Answers.{answerOf};
 ghost use Rattle.search.specs.Placings.{found};
 ghost use Rattle.search.specs.Memos.{Memo};
 ghost use Rattle.search.specs.Steps.{Standing};
-ghost use Rattle.search.specs.Fittings.{OthersAre};
+ghost use Rattle.search.specs.Fittings.{AskedAre};
 
 // How many classes stand after a term of class c, where `used` stood before.
 fn classes_with(used: u8, c: u8) -> u8
@@ -27,7 +27,7 @@ fn classes_with(used: u8, c: u8) -> u8
     if used < c + 1 { c + 1 } else { used }
 }
 
-// `left` terms are still to be placed, the first `placed` stand in `used` classes with these groups of terms, and `others` has the other terms that rows ask for.
+// `left` terms are still to be placed, the first `placed` stand in `used` classes with these groups of terms, and `asked` has the terms that rows ask for.
 pub(crate) fn place(
     entries: &[u64],
     memo: &mut [u8],
@@ -36,20 +36,20 @@ pub(crate) fn place(
     placed: usize,
     left: usize,
     used: u8,
-    others: u32,
+    asked: u32,
     sets: u8,
 ) -> SearchAnswer
     requires { ⌜ Standing (now entries) sets (now memo) arrangement groups placed used ⌝ }
     requires { ⌜ placed + left ≤ maxTerms ⌝ }
     requires { ⌜ T (allRows (rowDeclared (placed + left) sets) (rowsOfEntries (now entries))) ⌝ }
-    requires { ⌜ OthersAre (now entries) others (placed + left) ⌝ }
+    requires { ⌜ AskedAre (now entries) asked (placed + left) ⌝ }
     ensures { λ r. ⌜ r ≡ answerOf (found (now (entries .entry)) sets arrangement placed left) ⌝ }
     ensures { λ r. ⌜ Memo (now (entries .entry)) sets (now (memo .exit)) ⌝ }
 {
     if !all_fit(
         entries,
         memo,
-        others,
+        asked,
         groups,
         used,
         placed,
@@ -76,7 +76,7 @@ pub(crate) fn place(
             placed + 1,
             left - 1,
             more,
-            others,
+            asked,
             sets,
         );
         let verdict = r.verdict;

@@ -3,10 +3,10 @@ use crate::answers::SearchAnswer;
 use crate::answers::Verdict;
 use crate::answers::is_possible;
 use crate::answers::without_model;
+use crate::asked::terms_asked;
 use crate::entries::gather;
 use crate::groups::groups_of;
 use crate::models::model;
-use crate::others::others_asked;
 use crate::placings::place;
 use crate::renamings::PLAIN;
 use crate::renamings::back_from;
@@ -41,7 +41,7 @@ fn search_entries(entries: &[u64], terms: usize, sets: u8) -> SearchAnswer
     let arrangement: [u8; 12] = [0; 12];
     let groups: [u32; 12] = [0; 12];
     let mut memo: [u8; 4096] = [0; 4096];
-    let others = others_asked(entries);
+    let asked = terms_asked(entries);
     place(
         entries,
         &mut memo,
@@ -50,7 +50,7 @@ fn search_entries(entries: &[u64], terms: usize, sets: u8) -> SearchAnswer
         0,
         terms,
         0,
-        others,
+        asked,
         sets,
     )
 }

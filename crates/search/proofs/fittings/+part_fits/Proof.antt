@@ -1,4 +1,4 @@
--- `part_fits` is a recursion over the terms left, whose number falls: without the next term and then with it, if it is one of the others.
+-- `part_fits` is a recursion over the terms left, whose number falls: without the next term and then with it, if it is asked.
 use Prim.Native.Nat.{ℕ, _+_, _-_, _^_, _<_}
 use mathlib.Core.Path.{_≡_, sym, subst, _∙_}
 use mathlib.Core.Bool.{true≢false}
@@ -14,8 +14,8 @@ use Rattle.cut.specs.Others.{before}
 use Rattle.cut.proofs.OtherLaws.{before-next}
 use Rattle.cut.proofs.PartLaws.{none-part}
 use Rattle.cut.proofs.TriedLaws.{neither}
-use Rattle.search.specs.Memos.{maskOfClass, classCount}
-use Rattle.search.specs.Fittings.{OthersAre, NoPart}
+use Rattle.search.specs.Memos.{maskOfClass, groupCount}
+use Rattle.search.specs.Fittings.{AskedAre, NoPart}
 use Rattle.search.proofs.MemoLaws.{not-there}
 use Rattle.search.proofs.StepLaws.{some-left as a-term-left, room as one-of-twelve, as-many}
 use Rattle.search.proofs.FitLaws.{joined-small, part-past}
@@ -49,7 +49,7 @@ module _ (t : ℕ) where
     term-alone.Learnt,
   )
 
-  -- no term is left: the set alone decides
+  -- no term is left: the group alone decides
   returns : lts.Need-returns claims here part-fits.Post
   returns c =
       let asked = c .before .before .has-mask in
@@ -57,7 +57,7 @@ module _ (t : ℕ) where
       let s = e .before .before .before in
       let a = s .args in
       let all : a .term + a .left ≡ a .term = omega (arith, e .if1 .taken) in (
-        λ r. none-part (2 ^ (a .sets)) (rowsOfEntries (a .entries .now)) (before (a .others) (a .term)) (a .class) (a .term + a .left) (subst (OthersAre (a .entries .now) (a .others)) all (s .pre .1 .1 .1 .1))
+        λ r. none-part (2 ^ (a .sets)) (rowsOfEntries (a .entries .now)) (before (a .asked) (a .term)) (a .class) (a .term + a .left) (subst (AskedAre (a .entries .now) (a .asked)) all (s .pre .1 .1 .1 .1))
             (not-there (maskOfClass (a .entries .now) (a .sets) (a .class)) (sym (asked .ensures .0) ∙ r)),
         asked .ensures .1,
       )
@@ -73,45 +73,45 @@ module _ (t : ℕ) where
   all : (c : lts.Else1 claims here part-fits.Post) → let a = c .before .before .before .args in a .term + a .left ≡ a .term + 1 + (a .left - 1)
   all c = let a = c .before .before .before .args in as-many (a .term) (a .left) (c .if1 .left)
 
-  others-next : (c : lts.Else1 claims here part-fits.Post) → let a = c .before .before .before .args in OthersAre (a .entries .now) (a .others) (a .term + 1 + (a .left - 1))
-  others-next c = let s = c .before .before .before in subst (OthersAre (s .args .entries .now) (s .args .others)) (all c) (s .pre .1 .1 .1 .1)
+  asked-next : (c : lts.Else1 claims here part-fits.Post) → let a = c .before .before .before .args in AskedAre (a .entries .now) (a .asked) (a .term + 1 + (a .left - 1))
+  asked-next c = let s = c .before .before .before in subst (AskedAre (s .args .entries .now) (s .args .asked)) (all c) (s .pre .1 .1 .1 .1)
 
   -- what a call for the next term tells of this one
-  next-tells : (c : lts.Else1 claims here part-fits.Post) (set : ℕ) → let a = c .before .before .before .args in
-      NoPart (a .entries .now) (a .sets) (a .others) (a .term + 1) set (a .term + 1 + (a .left - 1)) → NoPart (a .entries .now) (a .sets) (a .others) (a .term + 1) set (a .term + a .left)
-  next-tells c set = let a = c .before .before .before .args in subst (NoPart (a .entries .now) (a .sets) (a .others) (a .term + 1) set) (sym (all c))
+  next-tells : (c : lts.Else1 claims here part-fits.Post) (group : ℕ) → let a = c .before .before .before .args in
+      NoPart (a .entries .now) (a .sets) (a .asked) (a .term + 1) group (a .term + 1 + (a .left - 1)) → NoPart (a .entries .now) (a .sets) (a .asked) (a .term + 1) group (a .term + a .left)
+  next-tells c group = let a = c .before .before .before .args in subst (NoPart (a .entries .now) (a .sets) (a .asked) (a .term + 1) group) (sym (all c))
 
   without-requires : lts.Need-part-fits-requires claims here part-fits.Post
   without-requires c κs =
       let e = c .before in
       let p = e .before .before .before .pre in
-      (omega (arith, some-left e, p .0), ((p .1 .0 .0, omega (arith, some-left e, p .1 .0 .1)), (p .1 .1 .0, (p .1 .1 .1 .0, others-next e))))
+      (omega (arith, some-left e, p .0), ((p .1 .0 .0, omega (arith, some-left e, p .1 .0 .1)), (p .1 .1 .0, (p .1 .1 .1 .0, asked-next e))))
 
-  -- the term is not one of the others
+  -- the term is not asked
   returns-3 : lts.Need-returns-3 claims here part-fits.Post
   returns-3 c =
       let asked = c .before .has-term in
       let call = c .before .before .before .before .before in
       let e = call .before .before in
       let a = e .before .before .before .args in (
-        λ r. part-past (a .entries .now) (a .sets) (a .others) (a .term) (a .term + a .left) (sym (asked .ensures) ∙ not-true (asked .result) (c .if3 .taken)) (a .class)
+        λ r. part-past (a .entries .now) (a .sets) (a .asked) (a .term) (a .term + a .left) (sym (asked .ensures) ∙ not-true (asked .result) (c .if3 .taken)) (a .class)
             (next-tells e (a .class) (call .part-fits .ensures .0 (c .before .before .if2 .left))),
         call .part-fits .ensures .1,
       )
 
-  -- the set with the term
-  small : (c : lts.After-term-alone claims here part-fits.Post) → let s = c .before .before .before .before .before .before .before .before .before .before .before in bitOr (s .args .class) (c .term-alone .result) < classCount
+  -- the group with the term
+  small : (c : lts.After-term-alone claims here part-fits.Post) → let s = c .before .before .before .before .before .before .before .before .before .before .before in bitOr (s .args .class) (c .term-alone .result) < groupCount
   small c =
       let e = c .before .before .before .before .before .before .before .before in
       let s = e .before .before .before in
-      subst (λ n. bitOr (s .args .class) n < classCount) (sym (c .term-alone .ensures)) (joined-small (s .args .class) (s .args .term) (room e) (s .pre .1 .1 .1 .0))
+      subst (λ n. bitOr (s .args .class) n < groupCount) (sym (c .term-alone .ensures)) (joined-small (s .args .class) (s .args .term) (room e) (s .pre .1 .1 .1 .0))
 
   with-requires : lts.Need-part-fits-requires-2 claims here part-fits.Post
   with-requires c κs =
       let call = c .before .before .before .before .before .before .before in
       let e = call .before .before in
       let p = e .before .before .before .pre in
-      (omega (arith, some-left e, p .0), ((p .1 .0 .0, omega (arith, some-left e, p .1 .0 .1)), (call .part-fits .ensures .1, (small (c .before), others-next e))))
+      (omega (arith, some-left e, p .0), ((p .1 .0 .0, omega (arith, some-left e, p .1 .0 .1)), (call .part-fits .ensures .1, (small (c .before), asked-next e))))
 
   returns-4 : lts.Need-returns-4 claims here part-fits.Post
   returns-4 c =
@@ -120,9 +120,9 @@ module _ (t : ℕ) where
       let first = own .before .before .before .before .before .before in
       let e = first .before .before in
       let a = e .before .before .before .args in (
-        λ r. neither (2 ^ (a .sets)) (rowsOfEntries (a .entries .now)) (before (a .others) (a .term)) (before (a .others) (a .term + 1)) (a .term) (before-next (a .others) (a .term)) (a .class) (a .term + a .left)
+        λ r. neither (2 ^ (a .sets)) (rowsOfEntries (a .entries .now)) (before (a .asked) (a .term)) (before (a .asked) (a .term + 1)) (a .term) (before-next (a .asked) (a .term)) (a .class) (a .term + a .left)
             (next-tells e (a .class) (first .part-fits .ensures .0 (own .before .before .before .if2 .left)))
-            (subst (λ n. NoPart (a .entries .now) (a .sets) (a .others) (a .term + 1) (bitOr (a .class) n) (a .term + a .left)) (own .term-alone .ensures) (next-tells e _ (call .part-fits2 .ensures .0 r))),
+            (subst (λ n. NoPart (a .entries .now) (a .sets) (a .asked) (a .term + 1) (bitOr (a .class) n) (a .term + a .left)) (own .term-alone .ensures) (next-tells e _ (call .part-fits2 .ensures .0 r))),
         call .part-fits2 .ensures .1,
       )
 

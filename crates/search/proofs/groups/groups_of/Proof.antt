@@ -1,4 +1,4 @@
--- `groups_of` puts one term after another into its class's set.
+-- `groups_of` puts one term after another into its class's group.
 use Prim.Native.Nat.{_-_, _≤_}
 use mathlib.Core.Path.{_≡_, subst}
 use native.Mathlib.Omega.{arith}

@@ -1,4 +1,4 @@
--- `with_term` joins one set and the term's own.
+-- `with_term` joins one group and the term's own.
 use mathlib.Core.Path.{ap}
 use borrow.Author.Needs.{needs}
 use lib.Bits.{bitOr}

@@ -10,7 +10,7 @@ use Rattle.cut.specs.Members.{members}
 use Rattle.search.specs.Answers.{padded}
 use Rattle.search.proofs.PlacingLaws.{RestZero, rest-set}
 use Rattle.search.proofs.SmallestLaws.{mask-is, mask-lacks}
-use Rattle.search.proofs.LeafLaws.{MasksTo, no-masks-yet, leaf-none, leaf-more, leaf-all}
+use Rattle.search.proofs.ModelLaws.{MasksTo, no-masks-yet, model-none, model-more, model-all}
 use Rattle.search.proofs.models.model.Statement.{statement}
 use Rattle.search.proofs.models.model.Tie as tie
 
@@ -38,7 +38,7 @@ returns c =
     let s = start l in
     let a = s .args in
     let smallest = c .before .before .before .smallest-mask in
-    leaf-none (a .entries .now) (a .sets) (a .arrangement) (a .terms) (a .used) (s .pre .1 .1 .0) (s .pre .1 .0) (l .loop .k) _ (its-terms turn) (c .without-model .result) (omega arith)
+    model-none (a .entries .now) (a .sets) (a .arrangement) (a .terms) (a .used) (s .pre .1 .1 .0) (s .pre .1 .0) (l .loop .k) _ (its-terms turn) (c .without-model .result) (omega arith)
     (mask-lacks (a .entries .now) (a .sets) _ (s .pre .0) (smallest .result) (smallest .ensures) (c .before .enum-told .given .1)) (c .without-model .ensures)
 
 loop-again : tie.Need-loop-again Inv-loop μ-loop
@@ -52,7 +52,7 @@ loop-again c =
       omega arith,
       length-set (l .loop .masks) (l .loop .k) _ ∙ l .loop .inv .2,
       rest-set (l .loop .masks) (l .loop .k) _ (inside turn) (l .loop .inv .3),
-      leaf-more (a .entries .now) (a .sets) (a .arrangement) (a .terms) (a .used) (s .pre .1 .1 .0) (s .pre .1 .0) (l .loop .k) _ (its-terms turn) (l .loop .masks) _ (omega (arith, inside turn))
+      model-more (a .entries .now) (a .sets) (a .arrangement) (a .terms) (a .used) (s .pre .1 .1 .0) (s .pre .1 .0) (l .loop .k) _ (its-terms turn) (l .loop .masks) _ (omega (arith, inside turn))
           (mask-is (a .entries .now) (a .sets) _ (s .pre .0) (smallest .result) (smallest .ensures) _ (c .before .smallest .given .1)) (l .loop .inv .4),
     )
 
@@ -62,7 +62,7 @@ returns-2 c =
     let s = l .before .before in
     let a = s .args in
     let all : l .loop .k ≡ a .used = omega arith in
-    leaf-all (a .entries .now) (a .sets) (a .arrangement) (a .terms) (a .used) (s .pre .1 .1 .0) (s .pre .1 .0) (l .loop .masks) _ (l .loop .inv .2) (subst (λ n. RestZero n (l .loop .masks)) all (l .loop .inv .3))
+    model-all (a .entries .now) (a .sets) (a .arrangement) (a .terms) (a .used) (s .pre .1 .1 .0) (s .pre .1 .0) (l .loop .masks) _ (l .loop .inv .2) (subst (λ n. RestZero n (l .loop .masks)) all (l .loop .inv .3))
     (subst (λ n. MasksTo (a .entries .now) (a .sets) (take (a .terms) (a .arrangement)) n (l .loop .masks)) all (l .loop .inv .4)) refl
 
 pub model-spec : {M : Type 1} → statement M

@@ -15,7 +15,7 @@ use Rattle.theory.specs.Sets.{rowDeclared}
 use Rattle.mask.specs.Entries.{rowsOfEntries}
 use Rattle.search.specs.Answers.{answerOf}
 use Rattle.search.specs.Memos.{Memo}
-use Rattle.search.specs.Fittings.{OthersAre}
+use Rattle.search.specs.Fittings.{AskedAre}
 use Rattle.search.proofs.PlacingLaws.{placing-next}
 use Rattle.search.proofs.GroupLaws.{group-below, groups-next}
 use Rattle.search.proofs.FitLaws.{unfit-cut}
@@ -37,10 +37,10 @@ abbrev μ-place : Measures 2 kinds.ps ℕ
 μ-place κs a = a .1 .1 .1 .1 .1 .0
 
 abbrev Inv-loop : lts.InvT-loop
-Inv-loop entries memo₀ arrangement groups placed left used others sets c₀ memo c = (c ≤ suc used) × Before entries sets arrangement placed left used c × Memo entries sets memo
+Inv-loop entries memo₀ arrangement groups placed left used asked sets c₀ memo c = (c ≤ suc used) × Before entries sets arrangement placed left used c × Memo entries sets memo
 
 abbrev μ-loop : lts.MeasureT-loop
-μ-loop entries memo₀ arrangement groups placed left used others sets c₀ memo c = suc used - c
+μ-loop entries memo₀ arrangement groups placed left used asked sets c₀ memo c = suc used - c
 
 -- a call with t terms left, and what the calls inside it ask and tell
 module _ (t : ℕ) where
@@ -87,7 +87,7 @@ module _ (t : ℕ) where
       let a = s .args in
       let nothing = told .ensures .0 (not-true (told .result) (c .before .if1 .taken)) in (
         answer-none (a .entries .now) (a .sets) (a .arrangement) (a .placed) (a .left) (a .used) (c .without-model .result) (c .without-model .ensures)
-            (unfit-cut (s .pre .1 .0 .placing) (s .pre .1 .0 .grouped) (a .entries .now) (a .sets) (a .others) (a .left) nothing),
+            (unfit-cut (s .pre .1 .0 .placing) (s .pre .1 .0 .grouped) (a .entries .now) (a .sets) (a .asked) (a .left) nothing),
         told .ensures .1,
       )
 
@@ -142,7 +142,7 @@ module _ (t : ℕ) where
             placing = placing-next (s .pre .1 .0 .placing) (l .loop .c) (room-here l) (c .before .before .classes-with .result) (allowed (c .before .before .before)) (c .before .before .classes-with .ensures);
             grouped = groups-next (s .pre .1 .0 .placing) (s .pre .1 .0 .grouped) (l .loop .c) (room-here l) (inside (c .before .before .before)) (c .before .with-term .result) (c .before .with-term .ensures);
           },
-          (subst (λ n. n ≤ maxTerms) all (s .pre .1 .1 .0), (subst (λ n. T (allRows (rowDeclared n (a .sets)) (rowsOfEntries (a .entries .now)))) all (s .pre .1 .1 .1 .0), subst (OthersAre (a .entries .now) (a .others)) all (s .pre .1 .1 .1 .1))),
+          (subst (λ n. n ≤ maxTerms) all (s .pre .1 .1 .0), (subst (λ n. T (allRows (rowDeclared n (a .sets)) (rowsOfEntries (a .entries .now)))) all (s .pre .1 .1 .1 .0), subst (AskedAre (a .entries .now) (a .asked)) all (s .pre .1 .1 .1 .1))),
         ),
       )
 

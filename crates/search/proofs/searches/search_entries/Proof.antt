@@ -10,7 +10,7 @@ use Rattle.theory.specs.Sets.{rowDeclared}
 use Rattle.mask.specs.Entries.{rowsOfEntries}
 use Rattle.cut.proofs.OtherLaws.{others-before}
 use Rattle.search.specs.Answers.{padded}
-use Rattle.search.specs.Fittings.{OthersAre}
+use Rattle.search.specs.Fittings.{AskedAre}
 use Rattle.search.proofs.PlacingLaws.{placing-start}
 use Rattle.search.proofs.GroupLaws.{groups-none}
 use Rattle.search.proofs.MemoLaws.{memo-start}
@@ -22,14 +22,14 @@ place-requires : tie.Need-place-requires
 place-requires c κs =
     let s = c .before .before .before in
     let a = s .args in
-    let asked = c .before .others-asked in
+    let asked = c .before .terms-asked in
     let all : a .terms ≡ 0 + a .terms = omega arith in (
       record { few-sets = s .pre .0 .1; remembered = memo-start (a .entries .now) (a .sets); placing = placing-start; grouped = groups-none (padded []) },
       (
         omega (arith, s .pre .0 .0),
         (
           subst (λ n. T (allRows (rowDeclared n (a .sets)) (rowsOfEntries (a .entries .now)))) all (s .pre .1),
-          subst (OthersAre (a .entries .now) (asked .result)) all (others-before (a .terms) (a .sets) (asked .result) (rowsOfEntries (a .entries .now)) (s .pre .1) (asked .ensures)),
+          subst (AskedAre (a .entries .now) (asked .result)) all (others-before (a .terms) (a .sets) (asked .result) (rowsOfEntries (a .entries .now)) (s .pre .1) (asked .ensures)),
         ),
       ),
     )

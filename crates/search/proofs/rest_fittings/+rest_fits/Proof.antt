@@ -1,5 +1,5 @@
--- `rest_fits` is a recursion over the terms left, whose number falls. Its loop stands before the set k:
--- with the term in one of the sets before, nothing fits, and the memo is right.
+-- `rest_fits` is a recursion over the terms left, whose number falls. Its loop stands before the group k:
+-- with the term in one of the groups before, nothing fits, and the memo is right.
 use Prim.Native.Nat.{ℕ, _+_, _-_, _^_, _≤_, _<_}
 use mathlib.Core.Path.{_≡_, sym, ap, subst, _∙_}
 use mathlib.Core.Bool.{true≢false}
@@ -16,31 +16,31 @@ use Rattle.mask.specs.Entries.{rowsOfEntries}
 use Rattle.cut.specs.Others.{before}
 use Rattle.cut.proofs.PartLaws.{none-part}
 use Rattle.cut.proofs.TriedLaws.{Tried, tried-none, tried-stuck, tried-lacks, tried-alone}
-use Rattle.search.specs.Memos.{maskOfClass, Memo, classCount}
-use Rattle.search.specs.Fittings.{OthersAre, NothingFits}
+use Rattle.search.specs.Memos.{maskOfClass, Memo, groupCount}
+use Rattle.search.specs.Fittings.{AskedAre, NothingFits}
 use Rattle.search.proofs.MemoLaws.{not-there}
 use Rattle.search.proofs.StepLaws.{some-left as a-term-left, room as one-of-twelve, as-many}
-use Rattle.search.proofs.FitLaws.{alone-small, joined-small, sets-joined}
+use Rattle.search.proofs.FitLaws.{alone-small, joined-small, groups-joined}
 use Rattle.search.proofs.groups.term_alone.Reads as term-alone
 use Rattle.search.proofs.groups.with_term.Reads as with-term
 use Rattle.search.proofs.memos.has_mask.Reads as has-mask
-use Rattle.search.proofs.rests.needs_a_set.Reads as needs-a-set
-use Rattle.search.proofs.rests.rest_fits.Reads as rest-fits
-use Rattle.search.proofs.rests.rest_fits.Kinds as kinds
-use Rattle.search.proofs.rests.+rest_fits.Lts-rest_fits as lts
-use Rattle.search.proofs.rests.+rest_fits.{statement}
-use Rattle.search.proofs.rests.+rest_fits.Tie.{close}
+use Rattle.search.proofs.rest_fittings.needs_a_group.Reads as needs-a-group
+use Rattle.search.proofs.rest_fittings.rest_fits.Reads as rest-fits
+use Rattle.search.proofs.rest_fittings.rest_fits.Kinds as kinds
+use Rattle.search.proofs.rest_fittings.+rest_fits.Lts-rest_fits as lts
+use Rattle.search.proofs.rest_fittings.+rest_fits.{statement}
+use Rattle.search.proofs.rest_fittings.+rest_fits.Tie.{close}
 
 -- how many terms are left
 abbrev μ-rest-fits : Measures 2 kinds.ps ℕ
 μ-rest-fits κs a = a .1 .1 .1 .1 .1 .1 .0
 
 abbrev Inv-loop : lts.InvT-loop
-Inv-loop entries memo₀ others used term left sets groups own k₀ memo k =
-    (k ≤ used) × Tried (2 ^ sets) (rowsOfEntries entries) (before others (term + left)) groups used (term + left) term k × Memo entries sets memo
+Inv-loop entries memo₀ asked used term left sets groups own k₀ memo k =
+    (k ≤ used) × Tried (2 ^ sets) (rowsOfEntries entries) (before asked (term + left)) groups used (term + left) term k × Memo entries sets memo
 
 abbrev μ-loop : lts.MeasureT-loop
-μ-loop entries memo₀ others used term left sets groups own k₀ memo k = used - k
+μ-loop entries memo₀ asked used term left sets groups own k₀ memo k = used - k
 
 -- a call with t terms left, and what the calls inside it ask and tell
 module _ (t : ℕ) where
@@ -51,8 +51,8 @@ module _ (t : ℕ) where
   claims = (
     term-alone.Asked,
     term-alone.Learnt,
-    needs-a-set.Asked,
-    needs-a-set.Learnt,
+    needs-a-group.Asked,
+    needs-a-group.Learnt,
     and 2 kinds.ps (falls 2 kinds.ps _<_ μ-rest-fits t) rest-fits.Pre,
     rest-fits.Post,
     has-mask.Asked,
@@ -72,8 +72,8 @@ module _ (t : ℕ) where
   all : (c : lts.Else1 claims here rest-fits.Post Inv-loop μ-loop) → let a = c .before .before .before .args in a .term + a .left ≡ a .term + 1 + (a .left - 1)
   all c = let a = c .before .before .before .args in as-many (a .term) (a .left) (c .if1 .left)
 
-  needs-a-set-requires : lts.Need-needs-a-set-requires claims here rest-fits.Post Inv-loop μ-loop
-  needs-a-set-requires c κs =
+  needs-a-group-requires : lts.Need-needs-a-group-requires claims here rest-fits.Post Inv-loop μ-loop
+  needs-a-group-requires c κs =
       let e = c .before .before in
       let s = e .before .before .before in
       (s .pre .1 .0 .0, (s .pre .1 .1 .0, omega (arith, c .before .term-alone .ensures, alone-small (s .args .term) (room e))))
@@ -87,7 +87,7 @@ module _ (t : ℕ) where
         omega (arith, some-left e, p .0),
         (
           (p .1 .0 .0, p .1 .0 .1, omega (arith, some-left e, p .1 .0 .2)),
-          (told .needs-a-set .ensures .1, (p .1 .1 .1 .0, subst (OthersAre (s .args .entries .now) (s .args .others)) (all e) (p .1 .1 .1 .1))),
+          (told .needs-a-group .ensures .1, (p .1 .1 .1 .0, subst (AskedAre (s .args .entries .now) (s .args .asked)) (all e) (p .1 .1 .1 .1))),
         ),
       )
 
@@ -96,7 +96,7 @@ module _ (t : ℕ) where
       let call = c .before .before in
       let e = call .before .before .before .before .before .before .before .before in
       let a = e .before .before .before .args in
-      ((λ r. subst (λ n. NothingFits (a .entries .now) (a .sets) (a .others) n (a .t4) (a .used) n) (sym (all e)) (call .rest-fits .ensures .0 r)), call .rest-fits .ensures .1)
+      ((λ r. subst (λ n. NothingFits (a .entries .now) (a .sets) (a .asked) n (a .t4) (a .used) n) (sym (all e)) (call .rest-fits .ensures .0 r)), call .rest-fits .ensures .1)
 
   -- what stands before the loop, and the call's start
   abbrev first : lts.At-loop claims here rest-fits.Post Inv-loop μ-loop → lts.Else1 claims here rest-fits.Post Inv-loop μ-loop
@@ -105,11 +105,11 @@ module _ (t : ℕ) where
   abbrev start : lts.At-loop claims here rest-fits.Post Inv-loop μ-loop → lts.Start claims here rest-fits.Post Inv-loop μ-loop
   start l = first l .before .before .before
 
-  -- the set of the term alone
+  -- the group of the term alone
   own-is : (l : lts.At-loop claims here rest-fits.Post Inv-loop μ-loop) → l .before .before .before .before .before .before .term-alone .result ≡ 2 ^ (start l .args .term)
   own-is l = l .before .before .before .before .before .before .term-alone .ensures
 
-  -- the set is one of twelve, and with the term it is a set of terms
+  -- the group is one of twelve, and with the term it is a group of terms
   inside : (c : lts.In-loop claims here rest-fits.Post Inv-loop μ-loop) → c .before .loop .k < maxTerms
   inside c = omega (arith, c .loop-test .taken, start (c .before) .pre .1 .0 .1)
 
@@ -117,14 +117,14 @@ module _ (t : ℕ) where
   within c = omega (arith, inside c)
 
   small : (c : lts.In-loop claims here rest-fits.Post Inv-loop μ-loop) →
-      bitOr (getD (start (c .before) .args .t4) (c .before .loop .k) 0) (c .before .before .before .before .before .before .before .term-alone .result) < classCount
+      bitOr (getD (start (c .before) .args .t4) (c .before .loop .k) 0) (c .before .before .before .before .before .before .before .term-alone .result) < groupCount
   small c =
       let l = c .before in
       let group = getD (start l .args .t4) (l .loop .k) 0 in
-      subst (λ n. bitOr group n < classCount) (sym (own-is l)) (joined-small group (start l .args .term) (room (first l)) (start l .pre .1 .1 .1 .0 (l .loop .k) (c .loop-test .taken)))
+      subst (λ n. bitOr group n < groupCount) (sym (own-is l)) (joined-small group (start l .args .term) (room (first l)) (start l .pre .1 .1 .1 .0 (l .loop .k) (c .loop-test .taken)))
 
-  in-set-requires : lts.Need-rest-fits-requires-2 claims here rest-fits.Post Inv-loop μ-loop
-  in-set-requires c κs =
+  in-group-requires : lts.Need-rest-fits-requires-2 claims here rest-fits.Post Inv-loop μ-loop
+  in-group-requires c κs =
       let turn = c .before .before .before .before .before .before .before in
       let l = turn .before in
       let s = start l in
@@ -136,8 +136,8 @@ module _ (t : ℕ) where
           (
             c .before .before .before .before .before .has-mask .ensures .1,
             (
-              sets-joined (s .args .t4) (s .args .used) (s .args .term) (room (first l)) (p .1 .1 .1 .0) (l .loop .k) (turn .loop-test .taken) (within turn) (next .result) (next .ensures),
-              subst (OthersAre (s .args .entries .now) (s .args .others)) (all (first l)) (p .1 .1 .1 .1),
+              groups-joined (s .args .t4) (s .args .used) (s .args .term) (room (first l)) (p .1 .1 .1 .0) (l .loop .k) (turn .loop-test .taken) (within turn) (next .result) (next .ensures),
+              subst (AskedAre (s .args .entries .now) (s .args .asked)) (all (first l)) (p .1 .1 .1 .1),
             ),
           ),
         ),
@@ -149,14 +149,14 @@ module _ (t : ℕ) where
       let l = turn .before in
       let s = start l in
       let a = s .args in
-      let known = before (a .others) (a .term + a .left) in
+      let known = before (a .asked) (a .term + a .left) in
       let rows = rowsOfEntries (a .entries .now) in
       let asked = c .before .before .before .has-mask in
       ⊎-elim
       (λ w. (
         omega arith,
         tried-stuck (2 ^ (a .sets)) rows known (a .t4) (a .used) (a .term + a .left) (a .term) known (λ d h. inl h) (l .loop .k) (turn .loop-test .taken) (within turn) (l .loop .inv .1) (w .1 .result) (w .1 .ensures)
-            (subst (λ n. NothingFits (a .entries .now) (a .sets) (a .others) n (w .1 .result) (a .used) n) (sym (all (first l))) (w .3 .ensures .0 (w .6 .left))),
+            (subst (λ n. NothingFits (a .entries .now) (a .sets) (a .asked) n (w .1 .result) (a .used) n) (sym (all (first l))) (w .3 .ensures .0 (w .6 .left))),
         subst (Memo (a .entries .now) (a .sets)) (sym (w .7)) (w .3 .ensures .1),
       ))
       (λ w. (
@@ -173,9 +173,9 @@ module _ (t : ℕ) where
       let l = c .before in
       let s = start l in
       let a = s .args in
-      let known = before (a .others) (a .term + a .left) in
+      let known = before (a .asked) (a .term + a .left) in
       let rows = rowsOfEntries (a .entries .now) in
-      let asked = l .before .before .before .before .needs-a-set in
+      let asked = l .before .before .before .before .needs-a-group in
       let alone = ap (maskOfClass (a .entries .now) (a .sets)) (sym (own-is l)) ∙ asked .ensures .0 (not-false (asked .result) (l .before .if2 .left)) in (
         λ r. tried-alone (2 ^ (a .sets)) rows known (a .t4) (a .used) (a .term + a .left) (a .term) known (λ d h. inl h) (l .loop .k) (c .loop-test .left) (omega (arith, some-left (first l))) (l .loop .inv .1)
             (none-part (2 ^ (a .sets)) rows known (2 ^ (a .term)) (a .term + a .left) (s .pre .1 .1 .1 .1) alone),
@@ -187,7 +187,7 @@ pub +rest-fits-spec : {M : Type 1} → statement M
     close μ-rest-fits λ t. lts.spec (claims t) (here t) rest-fits.Post Inv-loop μ-loop
     (λ c. ((λ r. absurd (true≢false r)), c .before .before .before .pre .1 .1 .0))
     (λ c κs. omega (arith, room t c))
-    (needs-a-set-requires t)
+    (needs-a-group-requires t)
     (λ c. omega (arith, room t (c .before .before .before .before .before .before .before)))
     (λ c. some-left t (c .before .before .before .before .before .before .before))
     (skip-requires t)
@@ -196,7 +196,7 @@ pub +rest-fits-spec : {M : Type 1} → statement M
     (λ c.
     let s = c .before .before .before .before .before .before .before .before .before in
     let a = s .args in
-    (omega arith, tried-none (2 ^ (a .sets)) (rowsOfEntries (a .entries .now)) (before (a .others) (a .term + a .left)) (a .t4) (a .used) (a .term + a .left) (a .term), c .before .before .before .needs-a-set .ensures .1))
+    (omega arith, tried-none (2 ^ (a .sets)) (rowsOfEntries (a .entries .now)) (before (a .asked) (a .term + a .left)) (a .t4) (a .used) (a .term + a .left) (a .term), c .before .before .before .needs-a-group .ensures .1))
     (λ c. search needs)
     (λ c. omega (arith, inside t c))
     (λ c. omega (arith, inside t c))
@@ -204,7 +204,7 @@ pub +rest-fits-spec : {M : Type 1} → statement M
     (λ c κs. let turn = c .before .before .before .before .before in (inside t turn, room t (first t (turn .before))))
     (λ c. omega (arith, room t (first t (c .before .before .before .before .before .before .before .before))))
     (λ c. some-left t (first t (c .before .before .before .before .before .before .before .before)))
-    (in-set-requires t)
+    (in-group-requires t)
     (λ c. c .before .before .before .rest-fits2 .ensures .1 .long ∙ sym (start t (c .before .before .before .before .before .before .before .before .before .before .before .before) .pre .1 .1 .0 .long))
     (λ c. ((λ r. absurd (true≢false r)), c .before .before .before .rest-fits2 .ensures .1))
     (λ c. search needs)

@@ -1,11 +1,11 @@
--- `settled_fits` asks of the sets first: where one has no mask, nothing fits.
+-- `settled_fits` asks of the groups first: where one has no mask, nothing fits.
 use Prim.Native.Nat.{_^_}
 use borrow.Author.Needs.{needs}
 use borrow.Author.Tests.{not-true}
 use Rattle.mask.specs.Entries.{rowsOfEntries}
 use Rattle.cut.proofs.PartLaws.{part-cut}
-use Rattle.search.proofs.rests.settled_fits.Statement.{statement}
-use Rattle.search.proofs.rests.settled_fits.Tie as tie
+use Rattle.search.proofs.rest_fittings.settled_fits.Statement.{statement}
+use Rattle.search.proofs.rest_fittings.settled_fits.Tie as tie
 
 returns : tie.Need-returns
 returns c =

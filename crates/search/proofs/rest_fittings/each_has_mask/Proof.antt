@@ -1,4 +1,4 @@
--- `each_has_mask` asks of one set after another; the loop keeps nothing but the memo.
+-- `each_has_mask` asks of one group after another; the loop keeps nothing but the memo.
 use Prim.Native.Nat.{_-_, _≤_, _<_}
 use mathlib.Core.Path.{sym, _∙_}
 use mathlib.Core.Bool.{true≢false}
@@ -8,8 +8,8 @@ use borrow.Author.Tests.{not-true}
 use Rattle.question.specs.Limits.{maxTerms}
 use Rattle.search.specs.Memos.{maskOfClass, Memo}
 use Rattle.search.proofs.MemoLaws.{not-there}
-use Rattle.search.proofs.rests.each_has_mask.Statement.{statement}
-use Rattle.search.proofs.rests.each_has_mask.Tie as tie
+use Rattle.search.proofs.rest_fittings.each_has_mask.Statement.{statement}
+use Rattle.search.proofs.rest_fittings.each_has_mask.Tie as tie
 
 abbrev Inv-loop : tie.InvT-loop
 Inv-loop entries memo₀ used sets groups k₀ memo k = (k ≤ used) × Memo entries sets memo
@@ -17,7 +17,7 @@ Inv-loop entries memo₀ used sets groups k₀ memo k = (k ≤ used) × Memo ent
 abbrev μ-loop : tie.MeasureT-loop
 μ-loop entries memo₀ used sets groups k₀ memo k = used - k
 
--- the set is one of twelve
+-- the group is one of twelve
 inside : (c : tie.In-loop Inv-loop μ-loop) → c .before .loop .k < maxTerms
 inside c = omega (arith, c .loop-test .taken, c .before .before .before .before .pre .0 .1)
 

@@ -63,13 +63,13 @@ module _ (entries : List ℕ) (sets : ℕ) (arrangement : List ℕ) (terms used 
 
   module _ (k class : ℕ) (is : class ≡ members l k) where
     -- a class has none
-    pub leaf-none : (r : SearchAnswer) → k < used → maskOfClass entries sets class ≡ none → r ≡ withoutModel Impossible → r ≡ answerOf (modelOf fits (2 ^ sets) (rowsOfEntries entries) l)
+    pub model-none : (r : SearchAnswer) → k < used → maskOfClass entries sets class ≡ none → r ≡ withoutModel Impossible → r ≡ answerOf (modelOf fits (2 ^ sets) (rowsOfEntries entries) l)
     unfolding modelOf answerOf
-    leaf-none r lt e i = i ∙ ap (λ o. answerOf (Option·map (withMasks l) o)) (sym (each-none (classes l) (smallest entries sets l) k (omega (arith, here .counted)) (smallest-is k ∙ ap (maskOfClass entries sets) (sym is) ∙ e)))
+    model-none r lt e i = i ∙ ap (λ o. answerOf (Option·map (withMasks l) o)) (sym (each-none (classes l) (smallest entries sets l) k (omega (arith, here .counted)) (smallest-is k ∙ ap (maskOfClass entries sets) (sym is) ∙ e)))
 
     -- one mask more
-    pub leaf-more : (masks : List ℕ) (m : ℕ) → k < length masks → maskOfClass entries sets class ≡ some m → MasksTo entries sets l k masks → MasksTo entries sets l (k + 1) (set masks k m)
-    leaf-more masks m lt e before i h = go (decLt i k)
+    pub model-more : (masks : List ℕ) (m : ℕ) → k < length masks → maskOfClass entries sets class ≡ some m → MasksTo entries sets l k masks → MasksTo entries sets l (k + 1) (set masks k m)
+    model-more masks m lt e before i h = go (decLt i k)
       where
         go : Dec (i < k) → smallest entries sets l i ≡ some (getD (set masks k m) i 0)
         go (yes p) = before i p ∙ ap (λ (x : ℕ). some x) (sym (getD-set-other masks k i m 0 (λ q. omega arith)))
@@ -77,10 +77,10 @@ module _ (entries : List ℕ) (sets : ℕ) (arrangement : List ℕ) (terms used 
             ap (smallest entries sets l) q ∙ smallest-is k ∙ ap (maskOfClass entries sets) (sym is) ∙ e ∙ ap (λ (x : ℕ). some x) (sym (ap (λ j. getD (set masks k m) j 0) q ∙ getD-set-same masks k m 0 lt))
 
   -- every class has one
-  pub leaf-all : (masks : List ℕ) (r : SearchAnswer) → length masks ≡ maxTerms → RestZero used masks → MasksTo entries sets l used masks →
+  pub model-all : (masks : List ℕ) (r : SearchAnswer) → length masks ≡ maxTerms → RestZero used masks → MasksTo entries sets l used masks →
       r ≡ record { verdict = Possible; classes = used; arrangement = arrangement; masks = masks } → r ≡ answerOf (modelOf fits (2 ^ sets) (rowsOfEntries entries) l)
   unfolding modelOf answerOf
-  leaf-all masks r long zero-rest each i = i ∙ shown ∙ ap (λ o. answerOf (Option·map (withMasks l) o)) (sym all)
+  model-all masks r long zero-rest each i = i ∙ shown ∙ ap (λ o. answerOf (Option·map (withMasks l) o)) (sym all)
     where
       few : used ≤ maxTerms
       few = omega (arith, here .few-classes, here .few-terms)

@@ -1,9 +1,9 @@
--- `other_asked` goes by the kind of the rows: an arm for each, and a kind above 9 says that the terms are the same.
+-- `term_asked` goes by the kind of the rows: an arm for each, and a kind above 9 says that the terms are the same.
 use borrow.Author.Needs.{needs}
 use Rattle.row.specs.Rows.{rowOf}
 use Rattle.mask.proofs.RowLaws.{places-are-bits, past-kinds}
-use Rattle.search.proofs.others.other_asked.Statement.{statement}
-use Rattle.search.proofs.others.other_asked.Tie as tie
+use Rattle.search.proofs.asked.term_asked.Statement.{statement}
+use Rattle.search.proofs.asked.term_asked.Tie as tie
 
 returns : tie.Need-returns
 unfolding rowOf
@@ -49,8 +49,8 @@ returns-11 : tie.Need-returns-11
 unfolding rowOf
 returns-11 c d h = rw (← (c .before .before .unpack .ensures), past-kinds _ _ _ _ (c .before .match .rest)) (c .asked-besides3 .ensures d h)
 
-pub other-asked-spec : {M : Type 1} → statement M
-other-asked-spec =
+pub term-asked-spec : {M : Type 1} → statement M
+term-asked-spec =
     tie.close
     (tie.spec
     (λ c. search needs)

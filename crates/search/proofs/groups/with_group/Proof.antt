@@ -1,12 +1,12 @@
--- `with_set` puts the term's own set into a place.
+-- `with_group` puts the term's own group into a place.
 use mathlib.Core.Path.{ap}
 use borrow.Author.Needs.{needs}
 use lib.ListN.{set}
-use Rattle.search.proofs.groups.with_set.Statement.{statement}
-use Rattle.search.proofs.groups.with_set.Tie as tie
+use Rattle.search.proofs.groups.with_group.Statement.{statement}
+use Rattle.search.proofs.groups.with_group.Tie as tie
 
-pub with-set-spec : {M : Type 1} → statement M
-with-set-spec =
+pub with-group-spec : {M : Type 1} → statement M
+with-group-spec =
     tie.close
     (tie.spec
     (λ c κs. search needs)
