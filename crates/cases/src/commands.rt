@@ -16,6 +16,7 @@ use answer::read_answer;
 use answer::write_answer;
 use judge::judge;
 use question::Question;
+use question::TableCheck;
 use question::check;
 use question_file::FileCheck;
 use question_file::Written;
@@ -184,8 +185,8 @@ fn decide_in(q: Question, rows: &mut [u32]) {
     }
 }
 
-// The model that the search found, judged.
-fn judge_answer(q: Question, answer: SearchAnswer) {
+// The model that the search found, if it found one, judged.
+fn judge_found(q: Question, answer: SearchAnswer) {
     let verdict = answer.verdict;
     match verdict {
         Verdict::Possible => {
@@ -193,7 +194,14 @@ fn judge_answer(q: Question, answer: SearchAnswer) {
             outcomes::judgement(judge(q, model_of(answer)));
         }
         Verdict::Impossible => {}
-        Verdict::Refused(_) => {}
+    }
+}
+
+fn judge_answer(q: Question, answer: SearchAnswer) {
+    let outcome = answer.outcome;
+    match outcome {
+        TableCheck::Accepted => judge_found(q, answer),
+        TableCheck::Refused(_) => {}
     }
 }
 

@@ -6,7 +6,7 @@ use Rattle.question.specs.declared.checks.TableCheck.the-variants.{Accepted, Re
 use Rattle.question.specs.Checks.{checked}
 use Rattle.theory.specs.Answers.{answer}
 use Rattle.search.specs.declared.answers.Verdict.{Verdict as Found}
-use Rattle.search.specs.declared.answers.Verdict.the-variants.{Possible as FoundPossible, Impossible as FoundImpossible, Refused as RefusedRows}
+use Rattle.search.specs.declared.answers.Verdict.the-variants.{Possible as FoundPossible, Impossible as FoundImpossible}
 use Rattle.search.specs.declared.answers.SearchAnswer.{SearchAnswer}
 use Rattle.answer.specs.declared.answers.Verdict.the-variants.{Possible}
 use Rattle.answer.specs.declared.answers.Answer.{Answer}
@@ -21,7 +21,7 @@ undecided r = record { outcome = Refused r; answer = filler }
 abbrev pub decidedAs : Answer → Decision
 decidedAs a = record { outcome = Decided; answer = a }
 
--- the refusals of the table, else the answer
+-- the refusals of the table or of its rows, else the answer
 abbrev pub decidedThen : TableCheck → Answer → Decision
 decidedThen Accepted a = decidedAs a
 decidedThen (RefusedTable r) a = undecided r
@@ -30,11 +30,11 @@ decidedThen (RefusedTable r) a = undecided r
 unfoldable pub decided : Question → Decision
 decided q = decidedThen (checked q) (asAnswer (answer q))
 
--- what the search found, as a decision
-abbrev pub shownAs : Found → SearchAnswer → Decision
-shownAs FoundPossible s = decidedAs (record { verdict = Possible; arrangement = s .arrangement; masks = s .masks })
-shownAs FoundImpossible s = decidedAs impossibleAnswer
-shownAs (RefusedRows r) s = undecided r
+-- the answer that the search found
+abbrev pub foundAs : Found → SearchAnswer → Answer
+foundAs FoundPossible s = record { verdict = Possible; arrangement = s .arrangement; masks = s .masks }
+foundAs FoundImpossible s = impossibleAnswer
 
+-- what the search says, as a decision: the refusal of the rows, else the answer found
 unfoldable pub shown : SearchAnswer → Decision
-shown s = shownAs (s .verdict) s
+shown s = decidedThen (s .outcome) (foundAs (s .verdict) s)

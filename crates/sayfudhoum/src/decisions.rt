@@ -3,6 +3,7 @@ use answer::Answer;
 use answer::Verdict;
 use question::Question;
 use question::Refusal;
+use question::TableCheck;
 use question::terms;
 use reduction::Reduced;
 use reduction::reduce;
@@ -10,7 +11,7 @@ use search::SearchAnswer;
 use search::Verdict as Found;
 use search::search;
 ghost use mathlib.Core.Path.{_≡_};
-ghost use Rattle.sayfudhoum.specs.Decisions.{undecided, shown, decided};
+ghost use Rattle.sayfudhoum.specs.Decisions.{undecided, foundAs, shown, decided};
 
 pub enum DecisionCheck {
     Decided,
@@ -37,33 +38,39 @@ pub(crate) fn refuse(refusal: Refusal) -> Decision
     }
 }
 
-// What the search found, as a decision.
-fn show(found: SearchAnswer) -> Decision
-    ensures { λ r. ⌜ r ≡ shown found ⌝ }
+// The answer that the search found.
+fn answer_found(found: SearchAnswer) -> Answer
+    ensures { λ r. ⌜ r ≡ foundAs (found .verdict) found ⌝ }
 {
     let verdict = found.verdict;
     match verdict {
         Found::Possible => {
             let arrangement = found.arrangement;
             let masks = found.masks;
-            let answer = Answer {
+            Answer {
                 verdict: Verdict::Possible,
                 arrangement: arrangement,
                 masks: masks,
-            };
+            }
+        }
+        Found::Impossible => Answer::impossible(),
+    }
+}
+
+// What the search says, as a decision.
+fn show(found: SearchAnswer) -> Decision
+    ensures { λ r. ⌜ r ≡ shown found ⌝ }
+{
+    let outcome = found.outcome;
+    match outcome {
+        TableCheck::Accepted => {
+            let answer = answer_found(found);
             Decision {
                 outcome: DecisionCheck::Decided,
                 answer: answer,
             }
         }
-        Found::Impossible => {
-            let answer = Answer::impossible();
-            Decision {
-                outcome: DecisionCheck::Decided,
-                answer: answer,
-            }
-        }
-        Found::Refused(refusal) => refuse(refusal),
+        TableCheck::Refused(refusal) => refuse(refusal),
     }
 }
 

@@ -8,6 +8,7 @@ use native.Mathlib.Decide.{decLt}
 use lib.Dec.{T}
 use lib.ListN.{length, getD, take, set}
 use lib.Seq.{ext-getD, getD-take, length-take-le, getD-set-same, getD-set-other}
+use Rattle.question.specs.declared.checks.TableCheck.the-variants.{Accepted}
 use Rattle.question.specs.Limits.{maxTerms}
 use Rattle.theory.specs.Arrangements.{classes}
 use Rattle.theory.specs.Searches.{eachFrom}
@@ -63,7 +64,7 @@ module _ (entries : List ℕ) (sets : ℕ) (arrangement : List ℕ) (terms used 
 
   module _ (k class : ℕ) (is : class ≡ members l k) where
     -- a class has none
-    pub model-none : (r : SearchAnswer) → k < used → maskOfClass entries sets class ≡ none → r ≡ withoutModel Impossible → r ≡ answerOf (modelOf fits (2 ^ sets) (rowsOfEntries entries) l)
+    pub model-none : (r : SearchAnswer) → k < used → maskOfClass entries sets class ≡ none → r ≡ withoutModel Accepted Impossible → r ≡ answerOf (modelOf fits (2 ^ sets) (rowsOfEntries entries) l)
     unfolding modelOf answerOf
     model-none r lt e i = i ∙ ap (λ o. answerOf (Option·map (withMasks l) o)) (sym (each-none (classes l) (smallest entries sets l) k (omega (arith, here .counted)) (smallest-is k ∙ ap (maskOfClass entries sets) (sym is) ∙ e)))
 
@@ -78,7 +79,7 @@ module _ (entries : List ℕ) (sets : ℕ) (arrangement : List ℕ) (terms used 
 
   -- every class has one
   pub model-all : (masks : List ℕ) (r : SearchAnswer) → length masks ≡ maxTerms → RestZero used masks → MasksTo entries sets l used masks →
-      r ≡ record { verdict = Possible; classes = used; arrangement = arrangement; masks = masks } → r ≡ answerOf (modelOf fits (2 ^ sets) (rowsOfEntries entries) l)
+      r ≡ record { outcome = Accepted; verdict = Possible; classes = used; arrangement = arrangement; masks = masks } → r ≡ answerOf (modelOf fits (2 ^ sets) (rowsOfEntries entries) l)
   unfolding modelOf answerOf
   model-all masks r long zero-rest each i = i ∙ shown ∙ ap (λ o. answerOf (Option·map (withMasks l) o)) (sym all)
     where
@@ -89,5 +90,5 @@ module _ (entries : List ℕ) (sets : ℕ) (arrangement : List ℕ) (terms used 
       all = each-some (classes l) (smallest entries sets l) (take used masks) (length-take-le used masks (omega arith) ∙ here .counted)
           (λ k lt. let inside : k < used = omega (arith, here .counted) in each k inside ∙ ap (λ (x : ℕ). some x) (sym (getD-take used masks k 0 inside)))
 
-      shown : record { verdict = Possible; classes = used; arrangement = arrangement; masks = masks } ≡ answerOf (some (withMasks l (take used masks)))
+      shown : record { outcome = Accepted; verdict = Possible; classes = used; arrangement = arrangement; masks = masks } ≡ answerOf (some (withMasks l (take used masks)))
       shown = cc (here .counted, placing-padded here, rest-padded masks used long few zero-rest)

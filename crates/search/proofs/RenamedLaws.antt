@@ -22,8 +22,7 @@ use Rattle.theory.proofs.RenamingLaws.{rows-stay, renamed-below, none-renamed, 
 use Rattle.row.specs.Rows.{rowOf}
 use Rattle.mask.specs.Entries.{rowsOfEntries}
 use Rattle.search.specs.declared.answers.SearchAnswer.{SearchAnswer}
-use Rattle.search.specs.Verdicts.{isPossible}
-use Rattle.search.specs.Answers.{padded, answerOf}
+use Rattle.search.specs.Answers.{isPossible, padded, answerOf}
 use Rattle.search.specs.Renamings.{newName}
 use Rattle.search.specs.Entries.{Gathered}
 use Rattle.search.specs.Placings.{Placing}

@@ -6,7 +6,7 @@ use mathlib.Core.Option.{Option, none, some}
 use native.Mathlib.Omega.{arith}
 use Rattle.question.specs.declared.refusals.Refusal.{Refusal}
 use Rattle.question.specs.declared.checks.TableCheck.{TableCheck}
-use Rattle.question.specs.declared.checks.TableCheck.the-variants.{Accepted, Refused as RowsRefused}
+use Rattle.question.specs.declared.checks.TableCheck.the-variants.{Accepted, Refused}
 use Rattle.theory.specs.Rules.{Row}
 use Rattle.theory.specs.Solutions.{Solution, IsSolution}
 use Rattle.theory.specs.FirstModels.{firstModel, IsFirstModel}
@@ -19,7 +19,7 @@ use Rattle.row.specs.Checks.{rowsChecked}
 use Rattle.row.proofs.AcceptedRows.{rows-keep, all-declared}
 use Rattle.mask.specs.Entries.{rowsOfEntries}
 use Rattle.cut.proofs.BehindLaws.{behind-nothing}
-use Rattle.search.specs.declared.answers.Verdict.the-variants.{Possible, Impossible, Refused}
+use Rattle.search.specs.declared.answers.Verdict.the-variants.{Possible, Impossible}
 use Rattle.search.specs.declared.answers.SearchAnswer.{SearchAnswer}
 use Rattle.search.specs.Answers.{padded, withoutModel, answerOf, acceptedThen, searched}
 use Rattle.search.specs.Placings.{found}
@@ -41,7 +41,7 @@ module _ (terms sets : ℕ) (rows : List ℕ) where
     unfolding searched
     searched-accepted e is = is ∙ ap (λ t. acceptedThen t (answerOf first)) (sym e ∙ checked)
 
-    pub searched-refused : (why : Refusal) → check ≡ RowsRefused why → r ≡ withoutModel (Refused why) → r ≡ searched terms sets rows
+    pub searched-refused : (why : Refusal) → check ≡ Refused why → r ≡ withoutModel (Refused why) Possible → r ≡ searched terms sets rows
     unfolding searched
     searched-refused why e is = is ∙ ap (λ t. acceptedThen t (answerOf first)) (sym e ∙ checked)
 

@@ -6,6 +6,7 @@ use mathlib.Core.List.{List, [], _∷_, _++_}
 use mathlib.Core.Option.{Option, none, some}
 use native.Mathlib.Omega.{arith}
 use lib.ListN.{take, set}
+use Rattle.question.specs.declared.checks.TableCheck.the-variants.{Accepted}
 use Rattle.question.specs.Limits.{maxTerms}
 use Rattle.theory.specs.Searches.{firstFrom}
 use Rattle.theory.specs.Solutions.{Solution}
@@ -17,8 +18,7 @@ use Rattle.cut.specs.Behind.{foundBehind}
 use Rattle.cut.proofs.BehindLaws.{behind-all, behind-step}
 use Rattle.search.specs.declared.answers.Verdict.the-variants.{Impossible}
 use Rattle.search.specs.declared.answers.SearchAnswer.{SearchAnswer}
-use Rattle.search.specs.Verdicts.{isPossible}
-use Rattle.search.specs.Answers.{withoutModel, answerOf}
+use Rattle.search.specs.Answers.{isPossible, withoutModel, answerOf}
 use Rattle.search.specs.Placings.{Placing, found}
 use Rattle.search.proofs.PlacingLaws.{next-taken}
 
@@ -49,7 +49,7 @@ module _ (entries : List ℕ) (sets : ℕ) (arrangement : List ℕ) (placed left
   Before c = FromHere (suc used) foundIn (found entries sets arrangement placed left) c
 
   -- nothing is found
-  pub answer-none : (r : SearchAnswer) → r ≡ withoutModel Impossible → found entries sets arrangement placed left ≡ none → r ≡ answerOf (found entries sets arrangement placed left)
+  pub answer-none : (r : SearchAnswer) → r ≡ withoutModel Accepted Impossible → found entries sets arrangement placed left ≡ none → r ≡ answerOf (found entries sets arrangement placed left)
   unfolding answerOf
   answer-none r is e = is ∙ ap answerOf (sym e)
 

@@ -1,5 +1,4 @@
 -- The definitions that the contracts cite: first those of the public one, then those of the steps inside.
-pub mod Verdicts
 pub mod Answers
 pub mod Renamings
 pub mod Entries

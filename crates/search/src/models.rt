@@ -4,6 +4,7 @@ use crate::answers::Verdict;
 use crate::answers::without_model;
 use mask::Smallest;
 use mask::smallest_mask;
+use question::TableCheck;
 ghost use mathlib.Core.Path.{_≡_};
 ghost use Prim.Native.Nat.{_^_, _≤_};
 ghost use lib.Dec.{T};
@@ -38,12 +39,13 @@ pub(crate) fn model(
         let class = groups[k];
         let smallest = smallest_mask(entries, class, sets);
         let Smallest::At(m) = smallest else {
-            return without_model(Verdict::Impossible);
+            return without_model(TableCheck::Accepted, Verdict::Impossible);
         };
         masks[k] = m;
         k += 1;
     }
     SearchAnswer {
+        outcome: TableCheck::Accepted,
         verdict: Verdict::Possible,
         classes: count,
         arrangement: arrangement,

@@ -6,6 +6,7 @@ use crate::answers::without_model;
 use crate::fittings::all_fit;
 use crate::groups::with_term;
 use crate::models::model;
+use question::TableCheck;
 ghost use mathlib.Core.Path.{_≡_};
 ghost use Prim.Native.Nat.{_+_, _≤_, max};
 ghost use lib.Dec.{T};
@@ -57,7 +58,7 @@ pub(crate) fn place(
         left,
         sets,
     ) {
-        return without_model(Verdict::Impossible);
+        return without_model(TableCheck::Accepted, Verdict::Impossible);
     }
     if left == 0 {
         return model(entries, arrangement, groups, placed, used, sets);
@@ -85,5 +86,5 @@ pub(crate) fn place(
         }
         c += 1;
     }
-    without_model(Verdict::Impossible)
+    without_model(TableCheck::Accepted, Verdict::Impossible)
 }

@@ -126,7 +126,10 @@ pub fn search(rows: &[u32], terms: usize, sets: u8) -> SearchAnswer
     ensures { λ r. ⌜ r ≡ searched terms sets (now (rows .entry)) ⌝ }
 {
     match check_rows(rows, terms, sets) {
-        TableCheck::Refused(refusal) => without_model(Verdict::Refused(refusal)),
+        TableCheck::Refused(refusal) => without_model(
+            TableCheck::Refused(refusal),
+            Verdict::Possible,
+        ),
         TableCheck::Accepted => search_accepted(rows, terms, sets),
     }
 }
