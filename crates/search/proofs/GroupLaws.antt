@@ -1,5 +1,5 @@
 -- The terms of each class: at the start, with one term more placed, and how large the groups are.
-use Prim.Native.Nat.{ℕ, _+_, _^_, _≤_, _<_}
+use Prim.Native.Nat.{ℕ, suc, _+_, _^_, _≤_, _<_, max}
 use mathlib.Core.Path.{_≡_, refl, sym, ap, _∙_}
 use mathlib.Core.List.{List, [], _∷_, _++_}
 use native.Mathlib.Omega.{arith}
@@ -9,10 +9,13 @@ use lib.Bits.{bitOr}
 use lib.ListN.{length, getD, take, set, length-set, getD-replicate}
 use lib.Seq.{getD-set-same, getD-set-other, length-take-le, take-suc}
 use Rattle.question.specs.Limits.{maxTerms}
+use Rattle.theory.specs.Arrangements.{classes}
+use Rattle.theory.proofs.ArrangementLaws.{classes-append}
 use Rattle.cut.specs.Members.{members}
 use Rattle.cut.proofs.MembersLaws.{members-below, members-last, members-other}
 use Rattle.search.specs.Answers.{padded}
-use Rattle.search.specs.Placings.{Placing, GroupsOf}
+use Rattle.search.specs.Groups.{GroupsOf}
+use Rattle.search.specs.Placings.{Placing}
 use Rattle.search.proofs.PlacingLaws.{placed-length, next-taken}
 
 zero-entry : (k : ℕ) → k < 12 → getD (padded []) k 0 ≡ 0
@@ -38,6 +41,12 @@ groups-more arrangement groups t inside lt of next is = record {
   are = λ k h. ap (λ l. getD l k 0) (is ∙ ap (λ n. set groups c (bitOr (getD groups c 0) (2 ^ n))) (sym (length-take-le t arrangement (omega arith))))
       ∙ grown groups (take t arrangement) c (of .long) lt (of .are) k h ∙ ap (λ p. members p k) (sym (ap (λ n. take n arrangement) (add-one t) ∙ take-suc arrangement t 0 inside));
 }
+  where
+    c : ℕ
+    c = getD arrangement t 0
+
+pub count-more : (arrangement : List ℕ) (t count : ℕ) → t < length arrangement → count ≡ classes (take t arrangement) → max count (getD arrangement t 0 + 1) ≡ classes (take (t + 1) arrangement)
+count-more arrangement t count inside e = ap (max count) (add-one c) ∙ ap (λ u. max u (suc c)) e ∙ sym (classes-append 0 (take t arrangement) (c ∷ [])) ∙ ap classes (sym (ap (λ n. take n arrangement) (add-one t) ∙ take-suc arrangement t 0 inside))
   where
     c : ℕ
     c = getD arrangement t 0

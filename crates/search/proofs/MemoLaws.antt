@@ -10,7 +10,8 @@ use native.Mathlib.Decide.{decLt, ℕ-discrete}
 use lib.Dec.{eqb}
 use lib.ListN.{length, getD, set, replicate, length-set, length-replicate, getD-replicate, List·getD-eq-default}
 use lib.Seq.{getD-set-other, getD-set-same}
-use Rattle.search.specs.Memos.{maskOfClass, isThere, noted, groupCount, Memo}
+use Rattle.search.specs.Groups.{groupCount}
+use Rattle.search.specs.Memos.{maskOfClass, isThere, noted, Memo}
 
 -- a note says whether there is a mask
 noted-there : (o : Option ℕ) → eqb (noted o) 2 ≡ isThere o

@@ -1,6 +1,6 @@
 -- Where the search stands: at the start, and with one term more placed; and the array that shows it.
 use Prim.Native.Nat.{ℕ, suc, _+_, _-_, _≤_, _<_, max}
-use mathlib.Core.Path.{_≡_, refl, sym, ap, _∙_}
+use mathlib.Core.Path.{_≡_, refl, sym, ap, subst, _∙_}
 use mathlib.Core.List.{List, [], _∷_, _++_}
 use native.Mathlib.Omega.{arith}
 use native.Mathlib.Numerals.{add-one}
@@ -35,6 +35,9 @@ module _ {arrangement : List ℕ} {placed used : ℕ} (here : Placing arrangemen
 
   pub placing-padded : arrangement ≡ padded (take placed arrangement)
   placing-padded = rest-padded arrangement placed (here .long) (here .few-terms) (here .rest-zero)
+
+  pub placing-counted : Placing arrangement placed (classes (take placed arrangement))
+  placing-counted = subst (Placing arrangement placed) (here .counted) here
 
   -- the next term in the class c
   module _ (c : ℕ) (room : placed < maxTerms) where

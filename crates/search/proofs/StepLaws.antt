@@ -1,6 +1,6 @@
 -- One call of the recursion: how it ends, how its loop over the class numbers goes, and what each call inside it is about.
 use Prim.Native.Nat.{ℕ, suc, _+_, _-_, _^_, _≤_, _<_}
-use mathlib.Core.Path.{_≡_, refl, sym, ap, _∙_}
+use mathlib.Core.Path.{_≡_, refl, sym, ap, subst, _∙_}
 use mathlib.Core.Bool.{Bool, true, false, true≢false, false≢true}
 use mathlib.Core.List.{List, [], _∷_, _++_}
 use mathlib.Core.Option.{Option, none, some}
@@ -19,7 +19,11 @@ use Rattle.cut.proofs.BehindLaws.{behind-all, behind-step}
 use Rattle.search.specs.declared.answers.Verdict.the-variants.{Impossible}
 use Rattle.search.specs.declared.answers.SearchAnswer.{SearchAnswer}
 use Rattle.search.specs.Answers.{isPossible, withoutModel, answerOf}
+use Rattle.search.specs.declared.steps.Fixed.{Fixed}
+use Rattle.search.specs.declared.steps.Span.{Span}
 use Rattle.search.specs.Placings.{Placing, found}
+use Rattle.search.specs.Memos.{Memo}
+use Rattle.search.specs.Steps.{allTerms, AskedAre, Ready}
 use Rattle.search.proofs.PlacingLaws.{next-taken}
 
 -- the numbers of a call that has a term left: with that term placed there are as many terms, and fewer left
@@ -35,6 +39,30 @@ module _ (placed left : ℕ) (not-all : left ≡ 0 → ⊥) where
 
   pub fewer : (t : ℕ) → left ≡ t → left - 1 < t
   fewer t e = omega arith
+
+-- the terms behind the first, and what a call for them may rely on
+abbrev pub behindFirst : Span → Span
+behindFirst s = record { term = s .term + 1; left = s .left - 1 }
+
+pub ready-next : {entries memo : List ℕ} {fixed : Fixed} {span : Span} → Ready entries fixed memo span → (span .left ≡ 0 → ⊥) → {now : List ℕ} → Memo entries (fixed .sets) now → Ready entries fixed now (behindFirst span)
+ready-next {entries} {memo} {fixed} {span} ready not-all right = record {
+  few-sets = ready .few-sets;
+  few-terms = subst (λ n. n ≤ maxTerms) (as-many (span .term) (span .left) not-all) (ready .few-terms);
+  remembered = right;
+  asked-are = subst (AskedAre entries (fixed .asked)) (as-many (span .term) (span .left) not-all) (ready .asked-are);
+}
+
+-- the memo may change, and the same terms may be counted from another one on
+pub ready-again : {entries memo : List ℕ} {fixed : Fixed} {span : Span} → Ready entries fixed memo span → {now : List ℕ} → Memo entries (fixed .sets) now → Ready entries fixed now span
+ready-again ready right = record { few-sets = ready .few-sets; few-terms = ready .few-terms; remembered = right; asked-are = ready .asked-are }
+
+pub ready-same : {entries memo : List ℕ} {fixed : Fixed} {span other : Span} → Ready entries fixed memo span → allTerms other ≡ allTerms span → Ready entries fixed memo other
+ready-same {entries} {memo} {fixed} ready same = record {
+  few-sets = ready .few-sets;
+  few-terms = subst (λ n. n ≤ maxTerms) (sym same) (ready .few-terms);
+  remembered = ready .remembered;
+  asked-are = subst (AskedAre entries (fixed .asked)) (sym same) (ready .asked-are);
+}
 
 pub none-left : (placed left : ℕ) → left ≡ 0 → placed + left ≡ placed
 none-left placed left e = omega arith

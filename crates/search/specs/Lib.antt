@@ -3,6 +3,7 @@ pub mod Answers
 pub mod Renamings
 pub mod Entries
 pub mod Placings
+pub mod Groups
 pub mod Memos
 pub mod Steps
 pub mod Fittings

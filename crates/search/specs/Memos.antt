@@ -6,9 +6,9 @@ use mathlib.Core.List.{List}
 use mathlib.Core.Logic.{_≢_}
 use mathlib.Core.Option.{Option, none, some}
 use lib.ListN.{length, getD}
-use Rattle.question.specs.Limits.{maxTerms}
 use Rattle.mask.specs.Entries.{rowsOfEntries}
 use Rattle.mask.specs.Least.{leastMask}
+use Rattle.search.specs.Groups.{groupCount}
 
 -- the smallest mask of a class, a group of terms
 abbrev pub maskOfClass : List ℕ → ℕ → ℕ → Option ℕ
@@ -23,10 +23,6 @@ isThere (some m) = true
 abbrev pub noted : Option ℕ → ℕ
 noted none = 1
 noted (some m) = 2
-
--- how many groups of terms there are
-abbrev pub groupCount : ℕ
-groupCount = 2 ^ maxTerms
 
 -- what is noted, at the number of a class, is right
 pub record Memo (entries : List ℕ) (sets : ℕ) (memo : List ℕ) : Type 0 where

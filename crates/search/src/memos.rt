@@ -4,7 +4,8 @@ use mask::smallest_mask;
 ghost use mathlib.Core.Path.{_≡_};
 ghost use Prim.Native.Nat.{_≤_, _<_};
 ghost use Rattle.question.specs.Limits.{maxSets};
-ghost use Rattle.search.specs.Memos.{maskOfClass, isThere, groupCount, Memo};
+ghost use Rattle.search.specs.Groups.{groupCount};
+ghost use Rattle.search.specs.Memos.{maskOfClass, isThere, Memo};
 
 // A class is a group of terms, and the memo has a byte for each.
 pub(crate) fn has_mask(entries: &[u64], memo: &mut [u8], class: u32, sets: u8) -> bool

@@ -5,6 +5,7 @@ use crate::answers::is_possible;
 use crate::answers::without_model;
 use crate::asked::terms_asked;
 use crate::entries::gather;
+use crate::groups::Groups;
 use crate::groups::groups_of;
 use crate::models::model;
 use crate::placings::place;
@@ -12,6 +13,8 @@ use crate::renamings::PLAIN;
 use crate::renamings::back_from;
 use crate::renamings::by_weight;
 use crate::renamings::is_renaming;
+use crate::steps::Fixed;
+use crate::steps::Span;
 use question::TableCheck;
 use row::check_rows;
 ghost use mathlib.Core.Path.{_≡_};
@@ -21,6 +24,7 @@ ghost use lib.Dec.{T};
 ghost use lib.ListN.{length, take};
 ghost use Rattle.question.specs.declared.checks.TableCheck.the-variants.{Accepted};
 ghost use Rattle.question.specs.Limits.{maxSets, maxTerms};
+ghost use Rattle.theory.specs.Arrangements.{classes};
 ghost use Rattle.theory.specs.Solutions.{allRows};
 ghost use Rattle.theory.specs.FirstModels.{modelOf, firstModel};
 ghost use Rattle.theory.specs.Sets.{fits, rowDeclared};
@@ -38,21 +42,22 @@ fn search_entries(entries: &[u64], terms: usize, sets: u8) -> SearchAnswer
     requires { ⌜ T (allRows (rowDeclared terms sets) (rowsOfEntries (now entries))) ⌝ }
     ensures { λ r. ⌜ r ≡ answerOf (firstModel fits terms (2 ^ sets) (rowsOfEntries (now (entries .entry)))) ⌝ }
 {
-    let arrangement: [u8; 12] = [0; 12];
-    let groups: [u32; 12] = [0; 12];
     let mut memo: [u8; 4096] = [0; 4096];
-    let asked = terms_asked(entries);
-    place(
-        entries,
-        &mut memo,
-        arrangement,
-        groups,
-        0,
-        terms,
-        0,
-        asked,
-        sets,
-    )
+    let fixed = Fixed {
+        asked: terms_asked(entries),
+        sets: sets,
+    };
+    let arrangement: [u8; 12] = [0; 12];
+    let none: [u32; 12] = [0; 12];
+    let groups = Groups {
+        terms: none,
+        count: 0,
+    };
+    let unplaced = Span {
+        term: 0,
+        left: terms,
+    };
+    place(entries, &mut memo, fixed, arrangement, groups, unplaced)
 }
 
 // Rows that the check accepts, with new numbers for the sets. The table is room for their entries.
@@ -78,25 +83,17 @@ fn model_again(
     rows: &[u32],
     table: &mut [u64],
     arrangement: [u8; 12],
-    classes: usize,
     terms: usize,
     sets: u8,
 ) -> SearchAnswer
     requires { ⌜ rowsChecked terms sets (now rows) ≡ Accepted ⌝ }
     requires { ⌜ length (now rows) ≤ length (now table) ⌝ }
-    requires { ⌜ Placing arrangement terms classes ⌝ }
+    requires { ⌜ Placing arrangement terms (classes (take terms arrangement)) ⌝ }
     ensures { λ r. ⌜ r ≡ answerOf (modelOf fits (2 ^ sets) (map rowOf (now (rows .entry))) (take terms arrangement)) ⌝ }
 {
     let count = gather(rows, PLAIN, table);
     let groups = groups_of(arrangement, terms);
-    model(
-        &table[..count],
-        arrangement,
-        groups,
-        terms,
-        classes as u8,
-        sets,
-    )
+    model(&table[..count], arrangement, groups, terms, sets)
 }
 
 // Rows that the check accepts: the first model depends only on which rows there are, so they are searched as entries in another order;
@@ -117,8 +114,7 @@ fn search_accepted(rows: &[u32], terms: usize, sets: u8) -> SearchAnswer
         return found;
     }
     let arrangement = found.arrangement;
-    let classes = found.classes;
-    model_again(rows, &mut table, arrangement, classes, terms, sets)
+    model_again(rows, &mut table, arrangement, terms, sets)
 }
 
 // The first model of the rows over so many terms and sets, or that there is none, or why the rows are refused.

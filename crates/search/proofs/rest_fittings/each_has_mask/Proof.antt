@@ -12,20 +12,20 @@ use Rattle.search.proofs.rest_fittings.each_has_mask.Statement.{stateme
 use Rattle.search.proofs.rest_fittings.each_has_mask.Tie as tie
 
 abbrev Inv-loop : tie.InvT-loop
-Inv-loop entries memo₀ used sets groups k₀ memo k = (k ≤ used) × Memo entries sets memo
+Inv-loop entries memo₀ sets terms count k₀ memo k = (k ≤ count) × Memo entries sets memo
 
 abbrev μ-loop : tie.MeasureT-loop
-μ-loop entries memo₀ used sets groups k₀ memo k = used - k
+μ-loop entries memo₀ sets terms count k₀ memo k = count - k
 
 -- the group is one of twelve
 inside : (c : tie.In-loop Inv-loop μ-loop) → c .before .loop .k < maxTerms
-inside c = omega (arith, c .loop-test .taken, c .before .before .before .before .pre .0 .1)
+inside c = omega (arith, c .loop-test .taken, c .before .before .before .before .before .pre .0 .1)
 
 returns : tie.Need-returns Inv-loop μ-loop
 returns c =
     let turn = c .before .before .before .before .before in
     let l = turn .before in
-    let s = l .before .before .before in
+    let s = l .before .before .before .before in
     let asked = c .before .before .before .has-mask in
     ((λ e. (l .loop .k, turn .loop-test .taken, not-there (maskOfClass (s .args .entries .now) (s .args .sets) _) (sym (asked .ensures .0) ∙ not-true (asked .result) (c .if1 .taken)))), asked .ensures .1)
 
@@ -35,15 +35,15 @@ each-has-mask-spec =
     (tie.spec
     Inv-loop
     μ-loop
-    (λ c. (omega arith, c .before .before .pre .1 .0))
+    (λ c. (omega arith, c .before .before .before .pre .1 .0))
     (λ c. search needs)
     (λ c. omega (arith, inside c))
     (λ c. omega (arith, inside c))
-    (λ c κs. let l = c .before .before in let s = l .before .before .before in (s .pre .0 .0, (l .loop .inv .1, s .pre .1 .1 (l .loop .k) (c .before .loop-test .taken))))
-    (λ c. c .before .before .before .has-mask .ensures .1 .long ∙ sym (c .before .before .before .before .before .before .before .before .before .pre .1 .0 .long))
+    (λ c κs. let l = c .before .before in let s = l .before .before .before .before in (s .pre .0 .0, (l .loop .inv .1, s .pre .1 .1 .small (l .loop .k) (c .before .loop-test .taken))))
+    (λ c. c .before .before .before .has-mask .ensures .1 .long ∙ sym (c .before .before .before .before .before .before .before .before .before .before .pre .1 .0 .long))
     returns
     (λ c. search needs)
     (λ c. search needs)
     (λ c. (omega arith, c .before .before .before .has-mask .ensures .1))
-    (λ c. c .before .loop .inv .1 .long ∙ sym (c .before .before .before .before .pre .1 .0 .long))
+    (λ c. c .before .loop .inv .1 .long ∙ sym (c .before .before .before .before .before .pre .1 .0 .long))
     (λ c. ((λ e. absurd (true≢false e)), c .before .loop .inv .1)))

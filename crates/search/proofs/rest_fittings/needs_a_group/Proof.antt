@@ -10,9 +10,9 @@ use Rattle.search.proofs.rest_fittings.needs_a_group.Tie as tie
 
 returns-2 : tie.Need-returns-2
 returns-2 c =
-    let s = c .before .before .before .before .before .before .before in
+    let s = c .before .before .before .before .before .before .before .before in
     let asked = c .before .before .has-mask in
-    ((λ e. not-there (maskOfClass (s .args .entries .now) (s .args .sets) (s .args .own)) (sym (asked .ensures .0) ∙ not-true (asked .result) e)), asked .ensures .1)
+    ((λ e. not-there (maskOfClass (s .args .entries .now) (s .args .fixed .sets) (s .args .own)) (sym (asked .ensures .0) ∙ not-true (asked .result) e)), asked .ensures .1)
 
 pub needs-a-group-spec : {M : Type 1} → statement M
-needs-a-group-spec = tie.close (tie.spec (λ c. ((λ e. absurd (false≢true e)), c .before .before .before .pre .1 .0)) (λ c κs. search needs) (λ c. search needs) returns-2)
+needs-a-group-spec = tie.close (tie.spec (λ c. ((λ e. absurd (false≢true e)), c .before .before .before .before .pre .1 .0)) (λ c κs. search needs) (λ c. search needs) returns-2)
