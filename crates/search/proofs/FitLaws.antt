@@ -1,6 +1,6 @@
 -- Groups of terms with one term more are groups of terms; and where nothing fits into those of the classes placed, nothing is found.
 use Prim.Native.Nat.{ℕ, suc, _+_, _^_, _<_, max}
-use mathlib.Core.Path.{_≡_, sym, ap, subst, _∙_}
+use mathlib.Core.Path.{_≡_, refl, sym, ap, subst, _∙_}
 use mathlib.Core.Bool.{false}
 use mathlib.Core.List.{List}
 use mathlib.Core.Option.{none}
@@ -68,8 +68,8 @@ module _ (entries : List ℕ) (fixed : Fixed) (t n : ℕ) where
 
   pub fits-joined : (g : Groups) (k u : ℕ) → k < g .count → (next : Groups) → next ≡ withTerm g k u → NothingFits entries fixed t next n →
       NothingFits entries fixed t (record { terms = withTerm g k u .terms; count = g .count }) n
-  fits-joined g k u lt next is nothing = let e : max (g .count) (k + 1) ≡ g .count = omega arith in
-      subst (λ m. NothingFits entries fixed t (record { terms = withTerm g k u .terms; count = m }) n) e (subst (λ h. NothingFits entries fixed t h n) is nothing)
+  fits-joined g k u lt next is nothing =
+      subst (λ m. NothingFits entries fixed t (record { terms = withTerm g k u .terms; count = m }) n) (joined-count g k u lt (withTerm g k u) refl) (subst (λ h. NothingFits entries fixed t h n) is nothing)
 
 -- where nothing fits into the groups of the classes placed, nothing is found
 pub unfit-cut : {arrangement : List ℕ} {g : Groups} {placed : ℕ} → Placing arrangement placed (g .count) → GroupsOf arrangement placed (g .terms) → (entries : List ℕ) (fixed : Fixed) (left : ℕ) →

@@ -23,7 +23,7 @@ use Rattle.search.specs.declared.answers.Verdict.the-variants.{Possible,
 use Rattle.search.specs.declared.answers.SearchAnswer.{SearchAnswer}
 use Rattle.search.specs.Answers.{withoutModel, answerOf}
 use Rattle.search.specs.Placings.{Placing}
-use Rattle.search.specs.Memos.{maskOfClass}
+use Rattle.search.specs.Memos.{maskOfGroup}
 use Rattle.search.proofs.PlacingLaws.{RestZero, rest-padded, placed-length, placing-padded}
 
 -- a value for each number, or one without
@@ -59,23 +59,23 @@ module _ (entries : List ℕ) (sets : ℕ) (arrangement : List ℕ) (terms used 
   abbrev l : List ℕ
   l = take terms arrangement
 
-  smallest-is : (k : ℕ) → smallest entries sets l k ≡ maskOfClass entries sets (members l k)
+  smallest-is : (k : ℕ) → smallest entries sets l k ≡ maskOfGroup entries sets (members l k)
   smallest-is k = mask-whole l k sets (2 ^ sets) (rowsOfEntries entries) (subst (λ n. T (allRows (rowDeclared n sets) (rowsOfEntries entries))) (sym (placed-length here)) declared)
 
   module _ (k class : ℕ) (is : class ≡ members l k) where
     -- a class has none
-    pub model-none : (r : SearchAnswer) → k < used → maskOfClass entries sets class ≡ none → r ≡ withoutModel Accepted Impossible → r ≡ answerOf (modelOf fits (2 ^ sets) (rowsOfEntries entries) l)
+    pub model-none : (r : SearchAnswer) → k < used → maskOfGroup entries sets class ≡ none → r ≡ withoutModel Accepted Impossible → r ≡ answerOf (modelOf fits (2 ^ sets) (rowsOfEntries entries) l)
     unfolding modelOf answerOf
-    model-none r lt e i = i ∙ ap (λ o. answerOf (Option·map (withMasks l) o)) (sym (each-none (classes l) (smallest entries sets l) k (omega (arith, here .counted)) (smallest-is k ∙ ap (maskOfClass entries sets) (sym is) ∙ e)))
+    model-none r lt e i = i ∙ ap (λ o. answerOf (Option·map (withMasks l) o)) (sym (each-none (classes l) (smallest entries sets l) k (omega (arith, here .counted)) (smallest-is k ∙ ap (maskOfGroup entries sets) (sym is) ∙ e)))
 
     -- one mask more
-    pub model-more : (masks : List ℕ) (m : ℕ) → k < length masks → maskOfClass entries sets class ≡ some m → MasksTo entries sets l k masks → MasksTo entries sets l (k + 1) (set masks k m)
+    pub model-more : (masks : List ℕ) (m : ℕ) → k < length masks → maskOfGroup entries sets class ≡ some m → MasksTo entries sets l k masks → MasksTo entries sets l (k + 1) (set masks k m)
     model-more masks m lt e before i h = go (decLt i k)
       where
         go : Dec (i < k) → smallest entries sets l i ≡ some (getD (set masks k m) i 0)
         go (yes p) = before i p ∙ ap (λ (x : ℕ). some x) (sym (getD-set-other masks k i m 0 (λ q. omega arith)))
         go (no p) = let q : i ≡ k = omega arith in
-            ap (smallest entries sets l) q ∙ smallest-is k ∙ ap (maskOfClass entries sets) (sym is) ∙ e ∙ ap (λ (x : ℕ). some x) (sym (ap (λ j. getD (set masks k m) j 0) q ∙ getD-set-same masks k m 0 lt))
+            ap (smallest entries sets l) q ∙ smallest-is k ∙ ap (maskOfGroup entries sets) (sym is) ∙ e ∙ ap (λ (x : ℕ). some x) (sym (ap (λ j. getD (set masks k m) j 0) q ∙ getD-set-same masks k m 0 lt))
 
   -- every class has one
   pub model-all : (masks : List ℕ) (r : SearchAnswer) → length masks ≡ maxTerms → RestZero used masks → MasksTo entries sets l used masks →

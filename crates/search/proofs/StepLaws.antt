@@ -40,29 +40,23 @@ module _ (placed left : ℕ) (not-all : left ≡ 0 → ⊥) where
   pub fewer : (t : ℕ) → left ≡ t → left - 1 < t
   fewer t e = omega arith
 
--- the terms behind the first, and what a call for them may rely on
+-- what a call may rely on where the memo has changed, where the same terms are counted from another one on, and for the terms behind the first
+pub ready-again : {entries memo : List ℕ} {fixed : Fixed} {span : Span} → Ready entries fixed memo span → {now : List ℕ} → Memo entries (fixed .sets) now → Ready entries fixed now span
+ready-again ready right = record { few-sets = ready .few-sets; few-terms = ready .few-terms; remembered = right; asked-are = ready .asked-are }
+
+pub ready-same : {entries memo : List ℕ} {fixed : Fixed} {span other : Span} → Ready entries fixed memo span → allTerms span ≡ allTerms other → Ready entries fixed memo other
+ready-same {entries} {memo} {fixed} ready same = record {
+  few-sets = ready .few-sets;
+  few-terms = subst (λ n. n ≤ maxTerms) same (ready .few-terms);
+  remembered = ready .remembered;
+  asked-are = subst (AskedAre entries (fixed .asked)) same (ready .asked-are);
+}
+
 abbrev pub behindFirst : Span → Span
 behindFirst s = record { term = s .term + 1; left = s .left - 1 }
 
 pub ready-next : {entries memo : List ℕ} {fixed : Fixed} {span : Span} → Ready entries fixed memo span → (span .left ≡ 0 → ⊥) → {now : List ℕ} → Memo entries (fixed .sets) now → Ready entries fixed now (behindFirst span)
-ready-next {entries} {memo} {fixed} {span} ready not-all right = record {
-  few-sets = ready .few-sets;
-  few-terms = subst (λ n. n ≤ maxTerms) (as-many (span .term) (span .left) not-all) (ready .few-terms);
-  remembered = right;
-  asked-are = subst (AskedAre entries (fixed .asked)) (as-many (span .term) (span .left) not-all) (ready .asked-are);
-}
-
--- the memo may change, and the same terms may be counted from another one on
-pub ready-again : {entries memo : List ℕ} {fixed : Fixed} {span : Span} → Ready entries fixed memo span → {now : List ℕ} → Memo entries (fixed .sets) now → Ready entries fixed now span
-ready-again ready right = record { few-sets = ready .few-sets; few-terms = ready .few-terms; remembered = right; asked-are = ready .asked-are }
-
-pub ready-same : {entries memo : List ℕ} {fixed : Fixed} {span other : Span} → Ready entries fixed memo span → allTerms other ≡ allTerms span → Ready entries fixed memo other
-ready-same {entries} {memo} {fixed} ready same = record {
-  few-sets = ready .few-sets;
-  few-terms = subst (λ n. n ≤ maxTerms) (sym same) (ready .few-terms);
-  remembered = ready .remembered;
-  asked-are = subst (AskedAre entries (fixed .asked)) (sym same) (ready .asked-are);
-}
+ready-next {entries} {memo} {fixed} {span} ready not-all right = ready-same (ready-again ready right) (as-many (span .term) (span .left) not-all)
 
 pub none-left : (placed left : ℕ) → left ≡ 0 → placed + left ≡ placed
 none-left placed left e = omega arith

@@ -9,11 +9,11 @@ use Rattle.cut.specs.Others.{before}
 use Rattle.cut.specs.Standings.{NonePart, NoneStands}
 use Rattle.search.specs.declared.groups.Groups.{Groups}
 use Rattle.search.specs.declared.steps.Fixed.{Fixed}
-use Rattle.search.specs.Memos.{maskOfClass}
+use Rattle.search.specs.Memos.{maskOfGroup}
 
 -- one of the groups has no mask
 abbrev pub SomeLacks : List ℕ → ℕ → Groups → Type 0
-SomeLacks entries sets g = (k : ℕ) × (k < g .count) × (maskOfClass entries sets (getD (g .terms) k 0) ≡ none)
+SomeLacks entries sets g = (k : ℕ) × (k < g .count) × (maskOfGroup entries sets (getD (g .terms) k 0) ≡ none)
 
 -- where the group has the asked terms before t, no arrangement of so many terms, of a class of which it is a part, has a model
 abbrev pub NoPart : List ℕ → Fixed → ℕ → ℕ → ℕ → Type 0

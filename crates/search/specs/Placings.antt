@@ -1,4 +1,4 @@
--- Where the search stands: the first terms have their class numbers, the others are still to be placed.
+-- Where the search stands: the first terms have their class numbers, those behind them are still to be placed.
 use Prim.Native.Nat.{ℕ, _-_, _^_, _≤_}
 use mathlib.Core.Path.{_≡_}
 use mathlib.Core.List.{List}

@@ -38,8 +38,8 @@ pub(crate) fn model(
     let mut masks: [u32; 12] = [0; 12];
     let mut k: usize = 0;
     while k < count {
-        let class = each[k];
-        let smallest = smallest_mask(entries, class, sets);
+        let group = each[k];
+        let smallest = smallest_mask(entries, group, sets);
         let Smallest::At(m) = smallest else {
             return without_model(TableCheck::Accepted, Verdict::Impossible);
         };

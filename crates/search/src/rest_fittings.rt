@@ -11,7 +11,7 @@ ghost use mathlib.Core.Option.{none};
 ghost use Prim.Native.Nat.{_≤_, _<_};
 ghost use Rattle.question.specs.Limits.{maxSets, maxTerms};
 ghost use Rattle.search.specs.Groups.{groupCount, AreGroups};
-ghost use Rattle.search.specs.Memos.{maskOfClass, Memo};
+ghost use Rattle.search.specs.Memos.{maskOfGroup, Memo};
 ghost use Rattle.search.specs.Steps.{allTerms, Ready};
 ghost use Rattle.search.specs.Fittings.{SomeLacks, NothingFits};
 
@@ -41,7 +41,7 @@ fn needs_a_group(entries: &[u64], memo: &mut [u8], fixed: Fixed, own: u32) -> bo
     requires { ⌜ fixed .sets ≤ maxSets ⌝ }
     requires { ⌜ Memo (now entries) (fixed .sets) (now memo) ⌝ }
     requires { ⌜ own < groupCount ⌝ }
-    ensures { λ r. ⌜ (r ≡ true → maskOfClass (now (entries .entry)) (fixed .sets) own ≡ none) ⌝ }
+    ensures { λ r. ⌜ (r ≡ true → maskOfGroup (now (entries .entry)) (fixed .sets) own ≡ none) ⌝ }
     ensures { λ r. ⌜ Memo (now (entries .entry)) (fixed .sets) (now (memo .exit)) ⌝ }
 {
     if fixed.asked & own != 0 {

@@ -75,7 +75,7 @@ module _ (t : ℕ) where
   as-before c = omega (arith, c .if1 .taken)
 
   settled-requires : lts.Need-settled-fits-requires claims here all-fit.Post Inv-loop μ-loop
-  settled-requires c κs = let p = c .before .before .before .before .pre .1 in (ready-same (p .0) (p .1 .1 .1), (p .1 .0, omega (arith, p .1 .1 .0, p .0 .few-terms)))
+  settled-requires c κs = let p = c .before .before .before .before .pre .1 in (ready-same (p .0) (sym (p .1 .1 .1)), (p .1 .0, omega (arith, p .1 .1 .0, p .0 .few-terms)))
 
   returns : lts.Need-returns claims here all-fit.Post Inv-loop μ-loop
   returns c =

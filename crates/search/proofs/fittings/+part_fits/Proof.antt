@@ -4,7 +4,6 @@ use mathlib.Core.Path.{_≡_, sym, subst, _∙_}
 use mathlib.Core.Bool.{true≢false}
 use mathlib.Core.List.{List}
 use native.Mathlib.Omega.{arith}
-use borrow.Author.Needs.{needs}
 use borrow.Author.Tests.{not-true}
 use borrow.Fn.Kinds.{In}
 use borrow.Fn.PlainCycle.{Measures, is, falls, and}
@@ -16,7 +15,7 @@ use Rattle.cut.proofs.OtherLaws.{before-next}
 use Rattle.cut.proofs.PartLaws.{none-part}
 use Rattle.cut.proofs.TriedLaws.{neither}
 use Rattle.search.specs.Groups.{groupCount}
-use Rattle.search.specs.Memos.{maskOfClass, Memo}
+use Rattle.search.specs.Memos.{maskOfGroup, Memo}
 use Rattle.search.specs.Steps.{allTerms, AskedAre, Ready}
 use Rattle.search.specs.Fittings.{NoPart}
 use Rattle.search.proofs.MemoLaws.{not-there}
@@ -61,7 +60,7 @@ module _ (t : ℕ) where
       let a = s .args in
       let all : allTerms (a .ahead) ≡ a .ahead .term = omega (arith, e .if1 .taken) in (
         λ r. none-part (2 ^ (a .fixed .sets)) (rowsOfEntries (a .entries .now)) (before (a .fixed .asked) (a .ahead .term)) (a .group) (allTerms (a .ahead)) (subst (AskedAre (a .entries .now) (a .fixed .asked)) all (s .pre .1 .0 .asked-are))
-            (not-there (maskOfClass (a .entries .now) (a .fixed .sets) (a .group)) (sym (asked .ensures .0) ∙ r)),
+            (not-there (maskOfGroup (a .entries .now) (a .fixed .sets) (a .group)) (sym (asked .ensures .0) ∙ r)),
         asked .ensures .1,
       )
 

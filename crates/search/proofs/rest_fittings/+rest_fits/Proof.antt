@@ -18,7 +18,7 @@ use Rattle.cut.specs.Others.{before}
 use Rattle.cut.proofs.PartLaws.{none-part}
 use Rattle.cut.proofs.TriedLaws.{Tried, tried-none, tried-stuck, tried-lacks, tried-alone}
 use Rattle.search.specs.Groups.{groupCount, withTerm}
-use Rattle.search.specs.Memos.{maskOfClass, Memo}
+use Rattle.search.specs.Memos.{maskOfGroup, Memo}
 use Rattle.search.specs.Steps.{allTerms, Ready}
 use Rattle.search.specs.Fittings.{NothingFits}
 use Rattle.search.proofs.MemoLaws.{not-there}
@@ -163,7 +163,7 @@ module _ (t : ℕ) where
         omega arith,
         tried-lacks (2 ^ (a .fixed .sets)) rows known (a .groups .terms) (a .groups .count) (allTerms (a .ahead)) (a .ahead .term) known (λ d h. inl h) (l .loop .k) (turn .loop-test .taken) (within turn) (l .loop .inv .1)
             (none-part (2 ^ (a .fixed .sets)) rows known (bitOr (getD (a .groups .terms) (l .loop .k) 0) (2 ^ (a .ahead .term))) (allTerms (a .ahead)) (s .pre .1 .0 .asked-are)
-            (ap (λ n. maskOfClass (a .entries .now) (a .fixed .sets) (bitOr (getD (a .groups .terms) (l .loop .k) 0) n)) (sym (own-is l)) ∙ not-there (maskOfClass (a .entries .now) (a .fixed .sets) _) (sym (asked .ensures .0) ∙ w .0 .left))),
+            (ap (λ n. maskOfGroup (a .entries .now) (a .fixed .sets) (bitOr (getD (a .groups .terms) (l .loop .k) 0) n)) (sym (own-is l)) ∙ not-there (maskOfGroup (a .entries .now) (a .fixed .sets) _) (sym (asked .ensures .0) ∙ w .0 .left))),
         subst (Memo (a .entries .now) (a .fixed .sets)) (sym (w .1)) (asked .ensures .1),
       ))
       (c .if3 .came)
@@ -176,7 +176,7 @@ module _ (t : ℕ) where
       let known = before (a .fixed .asked) (allTerms (a .ahead)) in
       let rows = rowsOfEntries (a .entries .now) in
       let asked = l .before .before .before .before .before .needs-a-group in
-      let alone = ap (maskOfClass (a .entries .now) (a .fixed .sets)) (sym (own-is l)) ∙ asked .ensures .0 (not-false (asked .result) (l .before .before .if2 .left)) in (
+      let alone = ap (maskOfGroup (a .entries .now) (a .fixed .sets)) (sym (own-is l)) ∙ asked .ensures .0 (not-false (asked .result) (l .before .before .if2 .left)) in (
         λ r. tried-alone (2 ^ (a .fixed .sets)) rows known (a .groups .terms) (a .groups .count) (allTerms (a .ahead)) (a .ahead .term) known (λ d h. inl h) (l .loop .k) (c .loop-test .left) (omega (arith, some-left (first l))) (l .loop .inv .1)
             (none-part (2 ^ (a .fixed .sets)) rows known (2 ^ (a .ahead .term)) (allTerms (a .ahead)) (s .pre .1 .0 .asked-are) alone),
         l .loop .inv .2,

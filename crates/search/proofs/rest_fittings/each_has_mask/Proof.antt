@@ -6,7 +6,7 @@ use native.Mathlib.Omega.{arith}
 use borrow.Author.Needs.{needs}
 use borrow.Author.Tests.{not-true}
 use Rattle.question.specs.Limits.{maxTerms}
-use Rattle.search.specs.Memos.{maskOfClass, Memo}
+use Rattle.search.specs.Memos.{maskOfGroup, Memo}
 use Rattle.search.proofs.MemoLaws.{not-there}
 use Rattle.search.proofs.rest_fittings.each_has_mask.Statement.{statement}
 use Rattle.search.proofs.rest_fittings.each_has_mask.Tie as tie
@@ -27,7 +27,7 @@ returns c =
     let l = turn .before in
     let s = l .before .before .before .before in
     let asked = c .before .before .before .has-mask in
-    ((λ e. (l .loop .k, turn .loop-test .taken, not-there (maskOfClass (s .args .entries .now) (s .args .sets) _) (sym (asked .ensures .0) ∙ not-true (asked .result) (c .if1 .taken)))), asked .ensures .1)
+    ((λ e. (l .loop .k, turn .loop-test .taken, not-there (maskOfGroup (s .args .entries .now) (s .args .sets) _) (sym (asked .ensures .0) ∙ not-true (asked .result) (c .if1 .taken)))), asked .ensures .1)
 
 pub each-has-mask-spec : {M : Type 1} → statement M
 each-has-mask-spec =
