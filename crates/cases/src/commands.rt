@@ -182,8 +182,8 @@ fn decide_in(q: Question, rows: &mut [u32]) {
     }
 }
 
-// The model that the search found, judged.
-fn judge_answer(q: Question, answer: SearchAnswer) {
+// The model that the search found, if it found one, judged.
+fn judge_found(q: Question, answer: SearchAnswer) {
     let verdict = answer.verdict;
     match verdict {
         Verdict::Possible => {
@@ -191,7 +191,14 @@ fn judge_answer(q: Question, answer: SearchAnswer) {
             outcomes::judgement(judge(q, model_of(answer)));
         }
         Verdict::Impossible => {}
-        Verdict::Refused(_) => {}
+    }
+}
+
+fn judge_answer(q: Question, answer: SearchAnswer) {
+    let outcome = answer.outcome;
+    match outcome {
+        Check::Accepted => judge_found(q, answer),
+        Check::Refused(_) => {}
     }
 }
 

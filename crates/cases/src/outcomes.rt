@@ -104,7 +104,8 @@ fn class_masks(masks: [u32; 12], classes: usize) {
     }
 }
 
-pub(crate) fn search_answer(answer: SearchAnswer, terms: usize) {
+// The verdict of a search, and the model beside it.
+fn found(answer: SearchAnswer, terms: usize) {
     let verdict = answer.verdict;
     let arrangement = answer.arrangement;
     let masks = answer.masks;
@@ -116,6 +117,13 @@ pub(crate) fn search_answer(answer: SearchAnswer, terms: usize) {
             class_masks(masks, answer.classes);
         }
         Verdict::Impossible => text(b"impossible"),
-        Verdict::Refused(r) => refusal(r),
+    }
+}
+
+pub(crate) fn search_answer(answer: SearchAnswer, terms: usize) {
+    let outcome = answer.outcome;
+    match outcome {
+        Check::Accepted => found(answer, terms),
+        Check::Refused(r) => refusal(r),
     }
 }

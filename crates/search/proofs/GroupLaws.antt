@@ -1,5 +1,5 @@
--- The terms of each class: at the start, with one term more placed, and how large the sets are.
-use Prim.Native.Nat.{ℕ, _+_, _^_, _≤_, _<_}
+-- The terms of each class: at the start, with one term more placed, and how large the groups are.
+use Prim.Native.Nat.{ℕ, suc, _+_, _^_, _≤_, _<_, max}
 use mathlib.Core.Path.{_≡_, refl, sym, ap, _∙_}
 use mathlib.Core.List.{List, [], _∷_, _++_}
 use native.Mathlib.Omega.{arith}
@@ -9,13 +9,16 @@ use lib.Bits.{bitOr}
 use lib.ListN.{length, getD, take, set, length-set, getD-replicate}
 use lib.Seq.{getD-set-same, getD-set-other, length-take-le, take-suc}
 use Rattle.question.specs.Limits.{maxTerms}
+use Rattle.theory.specs.Arrangements.{classes}
+use Rattle.theory.proofs.ArrangementLaws.{classes-append}
 use Rattle.cut.specs.Members.{members}
 use Rattle.cut.proofs.MembersLaws.{members-below, members-last, members-other}
-use Rattle.search.specs.Answers.{padded}
-use Rattle.search.specs.Placings.{Placing, GroupsOf}
+use Rattle.outcome.specs.Padded.{padded}
+use Rattle.search.specs.Groups.{GroupsOf}
+use Rattle.search.specs.Placings.{Placing}
 use Rattle.search.proofs.PlacingLaws.{placed-length, next-taken}
 
-zero-entry : (k : ℕ) → k < 12 → getD (padded []) k 0 ≡ 0
+zero-entry : (k : ℕ) → k < 12 → getD (padded maxTerms []) k 0 ≡ 0
 zero-entry k lt = getD-replicate 12 k 0 0 lt
 
 -- one term more in the class c, behind the class numbers p
@@ -42,15 +45,21 @@ groups-more arrangement groups t inside lt of next is = record {
     c : ℕ
     c = getD arrangement t 0
 
--- a set has only terms that come before
+pub count-more : (arrangement : List ℕ) (t count : ℕ) → t < length arrangement → count ≡ classes (take t arrangement) → max count (getD arrangement t 0 + 1) ≡ classes (take (t + 1) arrangement)
+count-more arrangement t count inside e = ap (max count) (add-one c) ∙ ap (λ u. max u (suc c)) e ∙ sym (classes-append 0 (take t arrangement) (c ∷ [])) ∙ ap classes (sym (ap (λ n. take n arrangement) (add-one t) ∙ take-suc arrangement t 0 inside))
+  where
+    c : ℕ
+    c = getD arrangement t 0
+
+-- a group has only terms that come before
 pub group-small : (arrangement groups : List ℕ) (t : ℕ) → t ≤ length arrangement → GroupsOf arrangement t groups → (k : ℕ) → k < maxTerms → getD groups k 0 < 2 ^ t
 group-small arrangement groups t le of k lt = omega (arith, of .are k lt, members-below k (take t arrangement), ap (λ n. 2 ^ n) (length-take-le t arrangement le))
 
-pub groups-none : (arrangement : List ℕ) → GroupsOf arrangement 0 (padded [])
+pub groups-none : (arrangement : List ℕ) → GroupsOf arrangement 0 (padded maxTerms [])
 groups-none arrangement = record { long = refl; are = λ k lt. zero-entry k lt }
 
 module _ {arrangement groups : List ℕ} {placed used : ℕ} (here : Placing arrangement placed used) (of : GroupsOf arrangement placed groups) where
-  -- a set has only terms that are placed
+  -- a group has only terms that are placed
   pub group-below : (k : ℕ) → k < maxTerms → getD groups k 0 < 2 ^ placed
   group-below k lt = group-small arrangement groups placed (omega (arith, here .long, here .few-terms)) of k lt
 

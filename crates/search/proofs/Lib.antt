@@ -7,10 +7,10 @@ pub mod PlacingLaws
 pub mod MemoLaws
 pub mod SmallestLaws
 pub mod StepLaws
-pub mod LeafLaws
+pub mod ModelLaws
 pub mod GroupLaws
 pub mod FitLaws
-pub mod OtherLaws
+pub mod AskedLaws
 pub mod SearchedLaws
 pub mod RenamedLaws
 pub mod OneResultLaws

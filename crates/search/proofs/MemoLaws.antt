@@ -10,7 +10,8 @@ use native.Mathlib.Decide.{decLt, ℕ-discrete}
 use lib.Dec.{eqb}
 use lib.ListN.{length, getD, set, replicate, length-set, length-replicate, getD-replicate, List·getD-eq-default}
 use lib.Seq.{getD-set-other, getD-set-same}
-use Rattle.search.specs.Memos.{maskOfClass, isThere, noted, classCount, Memo}
+use Rattle.search.specs.Groups.{groupCount}
+use Rattle.search.specs.Memos.{maskOfGroup, isThere, noted, Memo}
 
 -- a note says whether there is a mask
 noted-there : (o : Option ℕ) → eqb (noted o) 2 ≡ isThere o
@@ -24,25 +25,25 @@ not-there (some m) e = let z : _≡_ {A = ℕ} 0 1 = cc in absurd (omega arith)
 module _ (entries : List ℕ) (sets : ℕ) where
   -- nothing noted
   abbrev pub blank : List ℕ
-  blank = replicate classCount 0
+  blank = replicate groupCount 0
 
   pub memo-start : Memo entries sets blank
-  memo-start = record { long = blank-long; right = λ class z. absurd (z (zero-at class (decLt class classCount))) }
+  memo-start = record { long = blank-long; right = λ group z. absurd (z (zero-at group (decLt group groupCount))) }
     where
-      blank-long : length blank ≡ classCount
-      blank-long = length-replicate {A = ℕ} classCount 0
+      blank-long : length blank ≡ groupCount
+      blank-long = length-replicate {A = ℕ} groupCount 0
 
-      zero-at : (class : ℕ) → Dec (class < classCount) → getD blank class 0 ≡ 0
-      zero-at class (yes h) = getD-replicate classCount class 0 0 h
-      zero-at class (no h) = List·getD-eq-default blank 0 {n = class} (omega (arith, blank-long))
+      zero-at : (group : ℕ) → Dec (group < groupCount) → getD blank group 0 ≡ 0
+      zero-at group (yes h) = getD-replicate groupCount group 0 0 h
+      zero-at group (no h) = List·getD-eq-default blank 0 {n = group} (omega (arith, blank-long))
 
-  module _ (memo : List ℕ) (class : ℕ) (good : Memo entries sets memo) where
-    pub memo-read : getD memo class 0 ≢ 0 → eqb (getD memo class 0) 2 ≡ isThere (maskOfClass entries sets class)
-    memo-read z = ap (λ v. eqb v 2) (good .right class z) ∙ noted-there (maskOfClass entries sets class)
+  module _ (memo : List ℕ) (group : ℕ) (good : Memo entries sets memo) where
+    pub memo-read : getD memo group 0 ≢ 0 → eqb (getD memo group 0) 2 ≡ isThere (maskOfGroup entries sets group)
+    memo-read z = ap (λ v. eqb v 2) (good .right group z) ∙ noted-there (maskOfGroup entries sets group)
 
-    pub memo-note : class < classCount → (v : ℕ) → v ≡ noted (maskOfClass entries sets class) → Memo entries sets (set memo class v)
-    memo-note small v e = record { long = length-set memo class v ∙ good .long; right = λ other z. go other z (ℕ-discrete other class) }
+    pub memo-note : group < groupCount → (v : ℕ) → v ≡ noted (maskOfGroup entries sets group) → Memo entries sets (set memo group v)
+    memo-note small v e = record { long = length-set memo group v ∙ good .long; right = λ other z. go other z (ℕ-discrete other group) }
       where
-        go : (other : ℕ) → getD (set memo class v) other 0 ≢ 0 → Dec (other ≡ class) → getD (set memo class v) other 0 ≡ noted (maskOfClass entries sets other)
-        go other z (yes here) = ap (λ c. getD (set memo class v) c 0) here ∙ getD-set-same memo class v 0 (omega (arith, good .long)) ∙ e ∙ ap (λ c. noted (maskOfClass entries sets c)) (sym here)
-        go other z (no there) = let kept = getD-set-other memo class other v 0 there in kept ∙ good .right other (λ w. z (kept ∙ w))
+        go : (other : ℕ) → getD (set memo group v) other 0 ≢ 0 → Dec (other ≡ group) → getD (set memo group v) other 0 ≡ noted (maskOfGroup entries sets other)
+        go other z (yes here) = ap (λ c. getD (set memo group v) c 0) here ∙ getD-set-same memo group v 0 (omega (arith, good .long)) ∙ e ∙ ap (λ c. noted (maskOfGroup entries sets c)) (sym here)
+        go other z (no there) = let kept = getD-set-other memo group other v 0 there in kept ∙ good .right other (λ w. z (kept ∙ w))

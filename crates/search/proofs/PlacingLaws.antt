@@ -1,6 +1,6 @@
 -- Where the search stands: at the start, and with one term more placed; and the array that shows it.
 use Prim.Native.Nat.{ℕ, suc, _+_, _-_, _≤_, _<_, max}
-use mathlib.Core.Path.{_≡_, refl, sym, ap, _∙_}
+use mathlib.Core.Path.{_≡_, refl, sym, ap, subst, _∙_}
 use mathlib.Core.List.{List, [], _∷_, _++_}
 use native.Mathlib.Omega.{arith}
 use native.Mathlib.Numerals.{add-one}
@@ -9,7 +9,7 @@ use lib.Seq.{take-suc-set, length-take-le, drop-drop, drop-set-lt}
 use Rattle.question.specs.Limits.{maxTerms}
 use Rattle.theory.specs.Arrangements.{classes}
 use Rattle.theory.proofs.ArrangementLaws.{classes-append}
-use Rattle.search.specs.Answers.{padded}
+use Rattle.outcome.specs.Padded.{padded}
 use Rattle.search.specs.Placings.{Placing}
 
 -- entries past the first n are 0
@@ -17,7 +17,7 @@ abbrev pub RestZero : ℕ → List ℕ → Type 0
 RestZero n l = drop n l ≡ replicate (maxTerms - n) 0
 
 -- then the array is its first n entries, padded
-pub rest-padded : (l : List ℕ) (n : ℕ) → length l ≡ maxTerms → n ≤ maxTerms → RestZero n l → l ≡ padded (take n l)
+pub rest-padded : (l : List ℕ) (n : ℕ) → length l ≡ maxTerms → n ≤ maxTerms → RestZero n l → l ≡ padded maxTerms (take n l)
 rest-padded l n long le z = sym (take-append-drop n l) ∙ ap (λ r. take n l ++ r) (z ∙ ap (λ m. replicate (maxTerms - m) 0) (sym (length-take-le n l (omega arith))))
 
 -- one entry more
@@ -25,7 +25,7 @@ pub rest-set : (l : List ℕ) (n v : ℕ) → n < maxTerms → RestZero n l → 
 rest-set l n v lt z = let e : maxTerms - n ≡ suc (maxTerms - (n + 1)) = omega arith in
     drop-set-lt (n + 1) l n v (omega arith) ∙ sym (drop-drop 1 n l) ∙ ap (drop 1) z ∙ ap (λ m. drop 1 (replicate m 0)) e
 
-pub placing-start : Placing (padded []) 0 0
+pub placing-start : Placing (padded maxTerms []) 0 0
 placing-start = record { long = refl; few-terms = omega arith; few-classes = omega arith; counted = refl; rest-zero = refl }
 
 module _ {arrangement : List ℕ} {placed used : ℕ} (here : Placing arrangement placed used) where
@@ -33,8 +33,11 @@ module _ {arrangement : List ℕ} {placed used : ℕ} (here : Placing arrangemen
   pub placed-length : length (take placed arrangement) ≡ placed
   placed-length = length-take-le placed arrangement (omega (arith, here .long, here .few-terms))
 
-  pub placing-padded : arrangement ≡ padded (take placed arrangement)
+  pub placing-padded : arrangement ≡ padded maxTerms (take placed arrangement)
   placing-padded = rest-padded arrangement placed (here .long) (here .few-terms) (here .rest-zero)
+
+  pub placing-counted : Placing arrangement placed (classes (take placed arrangement))
+  placing-counted = subst (Placing arrangement placed) (here .counted) here
 
   -- the next term in the class c
   module _ (c : ℕ) (room : placed < maxTerms) where

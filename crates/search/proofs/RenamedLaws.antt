@@ -22,8 +22,8 @@ use Rattle.theory.proofs.RenamingLaws.{rows-stay, renamed-below, none-renamed, 
 use Rattle.row.specs.Rows.{rowOf}
 use Rattle.mask.specs.Entries.{rowsOfEntries}
 use Rattle.search.specs.declared.answers.SearchAnswer.{SearchAnswer}
-use Rattle.search.specs.Verdicts.{isPossible}
-use Rattle.search.specs.Answers.{padded, answerOf}
+use Rattle.search.specs.Answers.{isPossible, answerOf}
+use Rattle.outcome.specs.Padded.{padded}
 use Rattle.search.specs.Renamings.{newName}
 use Rattle.search.specs.Entries.{Gathered}
 use Rattle.search.specs.Placings.{Placing}
@@ -31,7 +31,7 @@ use Rattle.search.proofs.PlacingLaws.{placed-length}
 use Rattle.search.proofs.RenamingLaws.{plain, plain-stays}
 
 -- an answer that shows a model, and one that doesn't
-pub shown : (o : Option Solution) (r : SearchAnswer) → r ≡ answerOf o → isPossible (r .verdict) ≡ true → (sol : Solution) × (o ≡ some sol) × (r .arrangement ≡ padded (sol .arrangement)) × (r .classes ≡ classes (sol .arrangement))
+pub shown : (o : Option Solution) (r : SearchAnswer) → r ≡ answerOf o → isPossible (r .verdict) ≡ true → (sol : Solution) × (o ≡ some sol) × (r .arrangement ≡ padded maxTerms (sol .arrangement)) × (r .classes ≡ classes (sol .arrangement))
 unfolding answerOf
 shown none r is p = absurd (false≢true (sym (ap (λ (a : SearchAnswer). isPossible (a .verdict)) is) ∙ p))
 shown (some sol) r is p = (sol, refl, ap (λ (a : SearchAnswer). a .arrangement) is, ap (λ (a : SearchAnswer). a .classes) is)
@@ -42,7 +42,7 @@ not-shown none r is p = refl
 not-shown (some sol) r is p = absurd (true≢false (sym (ap (λ (a : SearchAnswer). isPossible (a .verdict)) is) ∙ p))
 
 -- the array of a solution's arrangement has all terms placed
-placing-whole : (l : List ℕ) (terms : ℕ) → terms ≤ maxTerms → length l ≡ terms → classes l ≤ length l → Placing (padded l) terms (classes l)
+placing-whole : (l : List ℕ) (terms : ℕ) → terms ≤ maxTerms → length l ≡ terms → classes l ≤ length l → Placing (padded maxTerms l) terms (classes l)
 placing-whole l terms few long fewer = record {
   long = length-append l (replicate (maxTerms - length l) 0) ∙ omega (arith, length-replicate {A = ℕ} (maxTerms - length l) 0);
   few-terms = few;
@@ -83,7 +83,7 @@ module _ (terms sets : ℕ) (rows : List ℕ) (declared : T (allRows (rowDeclare
     answer-none v = let e = not-shown (firstModel fits terms (2 ^ sets) renamed) found is v in is ∙ ap answerOf (e ∙ sym (none-renamed terms sets (newName to) (λ x. getD back x 0) renaming said declared e))
 
     module _ (few : terms ≤ maxTerms) (v : isPossible (found .verdict) ≡ true) where
-      abbrev model : (sol : Solution) × (firstModel fits terms (2 ^ sets) renamed ≡ some sol) × (found .arrangement ≡ padded (sol .arrangement)) × (found .classes ≡ classes (sol .arrangement))
+      abbrev model : (sol : Solution) × (firstModel fits terms (2 ^ sets) renamed ≡ some sol) × (found .arrangement ≡ padded maxTerms (sol .arrangement)) × (found .classes ≡ classes (sol .arrangement))
       model = shown (firstModel fits terms (2 ^ sets) renamed) found is v
 
       solved : IsSolution fits terms (2 ^ sets) renamed (model .0)

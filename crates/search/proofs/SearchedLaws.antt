@@ -6,7 +6,7 @@ use mathlib.Core.Option.{Option, none, some}
 use native.Mathlib.Omega.{arith}
 use Rattle.outcome.specs.declared.refusals.Refusal.{Refusal}
 use Rattle.outcome.specs.declared.checks.Check.{Check}
-use Rattle.outcome.specs.declared.checks.Check.the-variants.{Accepted, Refused as RowsRefused}
+use Rattle.outcome.specs.declared.checks.Check.the-variants.{Accepted, Refused}
 use Rattle.theory.specs.Rules.{Row}
 use Rattle.theory.specs.Solutions.{Solution, IsSolution}
 use Rattle.theory.specs.FirstModels.{firstModel, IsFirstModel}
@@ -19,14 +19,17 @@ use Rattle.row.specs.Checks.{rowsChecked}
 use Rattle.row.proofs.AcceptedRows.{rows-keep, all-declared}
 use Rattle.mask.specs.Entries.{rowsOfEntries}
 use Rattle.cut.proofs.BehindLaws.{behind-nothing}
-use Rattle.search.specs.declared.answers.Verdict.the-variants.{Possible, Impossible, Refused}
+use Rattle.outcome.specs.declared.verdicts.Verdict.the-variants.{Possible, Impossible}
 use Rattle.search.specs.declared.answers.SearchAnswer.{SearchAnswer}
+use Rattle.search.specs.Answers.{withoutModel, answerOf, searched}
+use Rattle.outcome.specs.Padded.{padded}
+use Rattle.question.specs.Limits.{maxTerms}
 use Rattle.outcome.specs.Checks.{acceptedThen}
-use Rattle.search.specs.Answers.{padded, withoutModel, answerOf, searched}
+use Rattle.search.specs.Answers.{refusedRows}
 use Rattle.search.specs.Placings.{found}
 
 -- with no term placed, what is found is the first model
-pub answer-first : (terms sets : ℕ) (entries : List ℕ) (r : SearchAnswer) → r ≡ answerOf (found entries sets (padded []) 0 terms) → r ≡ answerOf (firstModel fits terms (2 ^ sets) (rowsOfEntries entries))
+pub answer-first : (terms sets : ℕ) (entries : List ℕ) (r : SearchAnswer) → r ≡ answerOf (found entries sets (padded maxTerms []) 0 terms) → r ≡ answerOf (firstModel fits terms (2 ^ sets) (rowsOfEntries entries))
 answer-first terms sets entries r is = is ∙ ap answerOf (behind-nothing fits (2 ^ sets) (rowsOfEntries entries) terms)
 
 module _ (terms sets : ℕ) (rows : List ℕ) where
@@ -40,11 +43,11 @@ module _ (terms sets : ℕ) (rows : List ℕ) where
   module _ (r : SearchAnswer) (check : Check) (checked : check ≡ rowsChecked terms sets rows) where
     pub searched-accepted : check ≡ Accepted → r ≡ answerOf first → r ≡ searched terms sets rows
     unfolding searched
-    searched-accepted e is = is ∙ ap (λ t. acceptedThen t (λ r. withoutModel (Refused r)) (answerOf first)) (sym e ∙ checked)
+    searched-accepted e is = is ∙ ap (λ t. acceptedThen t refusedRows (answerOf first)) (sym e ∙ checked)
 
-    pub searched-refused : (why : Refusal) → check ≡ RowsRefused why → r ≡ withoutModel (Refused why) → r ≡ searched terms sets rows
+    pub searched-refused : (why : Refusal) → check ≡ Refused why → r ≡ withoutModel (Refused why) Possible → r ≡ searched terms sets rows
     unfolding searched
-    searched-refused why e is = is ∙ ap (λ t. acceptedThen t (λ r. withoutModel (Refused r)) (answerOf first)) (sym e ∙ checked)
+    searched-refused why e is = is ∙ ap (λ t. acceptedThen t refusedRows (answerOf first)) (sym e ∙ checked)
 
   module _ (accepted : rowsChecked terms sets rows ≡ Accepted) where
     below : TermsBelow terms said

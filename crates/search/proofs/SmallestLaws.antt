@@ -1,4 +1,4 @@
--- What `smallest_mask` gives is the mask of the class, where there are at most so many sets as a question may have.
+-- What `smallest_mask` gives is the mask of the group, where there are at most so many sets as a question may have.
 use Prim.Native.Nat.{ℕ, _^_, _≤_, min}
 use mathlib.Core.Path.{_≡_, refl, sym, ap, _∙_}
 use mathlib.Core.List.{List}
@@ -10,7 +10,7 @@ use Rattle.mask.specs.declared.masks.Smallest.{Smallest}
 use Rattle.mask.specs.declared.masks.Smallest.the-variants.{At, Nothing}
 use Rattle.mask.specs.Least.{leastMask}
 use Rattle.mask.specs.Masks.{smallestOf}
-use Rattle.search.specs.Memos.{maskOfClass}
+use Rattle.search.specs.Memos.{maskOfGroup}
 
 is-some : (o : Option ℕ) (m : ℕ) → At m ≡ smallestOf o → o ≡ some m
 is-some none m e = let z : _≡_ {A = ℕ} 0 1 = cc in absurd (omega arith)
@@ -20,12 +20,12 @@ is-none : (o : Option ℕ) → Nothing ≡ smallestOf o → o ≡ none
 is-none none e = refl
 is-none (some n) e = let z : _≡_ {A = ℕ} 0 1 = cc in absurd (omega arith)
 
-module _ (entries : List ℕ) (sets class : ℕ) (few : sets ≤ maxSets) (s : Smallest) (found : s ≡ smallestOf (leastMask (2 ^ min sets 32) (rowsOfEntries entries) class)) where
-  as-wide : s ≡ smallestOf (maskOfClass entries sets class)
-  as-wide = let e : min sets 32 ≡ sets = omega arith in found ∙ ap (λ w. smallestOf (leastMask (2 ^ w) (rowsOfEntries entries) class)) e
+module _ (entries : List ℕ) (sets group : ℕ) (few : sets ≤ maxSets) (s : Smallest) (found : s ≡ smallestOf (leastMask (2 ^ min sets 32) (rowsOfEntries entries) group)) where
+  as-wide : s ≡ smallestOf (maskOfGroup entries sets group)
+  as-wide = let e : min sets 32 ≡ sets = omega arith in found ∙ ap (λ w. smallestOf (leastMask (2 ^ w) (rowsOfEntries entries) group)) e
 
-  pub mask-is : (m : ℕ) → s ≡ At m → maskOfClass entries sets class ≡ some m
-  mask-is m e = is-some (maskOfClass entries sets class) m (sym e ∙ as-wide)
+  pub mask-is : (m : ℕ) → s ≡ At m → maskOfGroup entries sets group ≡ some m
+  mask-is m e = is-some (maskOfGroup entries sets group) m (sym e ∙ as-wide)
 
-  pub mask-lacks : s ≡ Nothing → maskOfClass entries sets class ≡ none
-  mask-lacks e = is-none (maskOfClass entries sets class) (sym e ∙ as-wide)
+  pub mask-lacks : s ≡ Nothing → maskOfGroup entries sets group ≡ none
+  mask-lacks e = is-none (maskOfGroup entries sets group) (sym e ∙ as-wide)

@@ -1,11 +1,12 @@
 -- One call of the recursion: how it ends, how its loop over the class numbers goes, and what each call inside it is about.
 use Prim.Native.Nat.{ℕ, suc, _+_, _-_, _^_, _≤_, _<_}
-use mathlib.Core.Path.{_≡_, refl, sym, ap, _∙_}
+use mathlib.Core.Path.{_≡_, refl, sym, ap, subst, _∙_}
 use mathlib.Core.Bool.{Bool, true, false, true≢false, false≢true}
 use mathlib.Core.List.{List, [], _∷_, _++_}
 use mathlib.Core.Option.{Option, none, some}
 use native.Mathlib.Omega.{arith}
 use lib.ListN.{take, set}
+use Rattle.outcome.specs.declared.checks.Check.the-variants.{Accepted}
 use Rattle.question.specs.Limits.{maxTerms}
 use Rattle.theory.specs.Searches.{firstFrom}
 use Rattle.theory.specs.Solutions.{Solution}
@@ -15,11 +16,14 @@ use Rattle.theory.proofs.LoopLaws.{FromHere, loop-start, loop-miss, loop-hit, l
 use Rattle.mask.specs.Entries.{rowsOfEntries}
 use Rattle.cut.specs.Behind.{foundBehind}
 use Rattle.cut.proofs.BehindLaws.{behind-all, behind-step}
-use Rattle.search.specs.declared.answers.Verdict.the-variants.{Impossible}
+use Rattle.outcome.specs.declared.verdicts.Verdict.the-variants.{Impossible}
 use Rattle.search.specs.declared.answers.SearchAnswer.{SearchAnswer}
-use Rattle.search.specs.Verdicts.{isPossible}
-use Rattle.search.specs.Answers.{withoutModel, answerOf}
+use Rattle.search.specs.Answers.{isPossible, withoutModel, answerOf}
+use Rattle.search.specs.declared.steps.Fixed.{Fixed}
+use Rattle.search.specs.declared.steps.Span.{Span}
 use Rattle.search.specs.Placings.{Placing, found}
+use Rattle.search.specs.Memos.{Memo}
+use Rattle.search.specs.Steps.{allTerms, AskedAre, Ready}
 use Rattle.search.proofs.PlacingLaws.{next-taken}
 
 -- the numbers of a call that has a term left: with that term placed there are as many terms, and fewer left
@@ -36,6 +40,24 @@ module _ (placed left : ℕ) (not-all : left ≡ 0 → ⊥) where
   pub fewer : (t : ℕ) → left ≡ t → left - 1 < t
   fewer t e = omega arith
 
+-- what a call may rely on where the memo has changed, where the same terms are counted from another one on, and for the terms behind the first
+pub ready-again : {entries memo : List ℕ} {fixed : Fixed} {span : Span} → Ready entries fixed memo span → {now : List ℕ} → Memo entries (fixed .sets) now → Ready entries fixed now span
+ready-again ready right = record { few-sets = ready .few-sets; few-terms = ready .few-terms; remembered = right; asked-are = ready .asked-are }
+
+pub ready-same : {entries memo : List ℕ} {fixed : Fixed} {span other : Span} → Ready entries fixed memo span → allTerms span ≡ allTerms other → Ready entries fixed memo other
+ready-same {entries} {memo} {fixed} ready same = record {
+  few-sets = ready .few-sets;
+  few-terms = subst (λ n. n ≤ maxTerms) same (ready .few-terms);
+  remembered = ready .remembered;
+  asked-are = subst (AskedAre entries (fixed .asked)) same (ready .asked-are);
+}
+
+abbrev pub behindFirst : Span → Span
+behindFirst s = record { term = s .term + 1; left = s .left - 1 }
+
+pub ready-next : {entries memo : List ℕ} {fixed : Fixed} {span : Span} → Ready entries fixed memo span → (span .left ≡ 0 → ⊥) → {now : List ℕ} → Memo entries (fixed .sets) now → Ready entries fixed now (behindFirst span)
+ready-next {entries} {memo} {fixed} {span} ready not-all right = ready-same (ready-again ready right) (as-many (span .term) (span .left) not-all)
+
 pub none-left : (placed left : ℕ) → left ≡ 0 → placed + left ≡ placed
 none-left placed left e = omega arith
 
@@ -49,7 +71,7 @@ module _ (entries : List ℕ) (sets : ℕ) (arrangement : List ℕ) (placed left
   Before c = FromHere (suc used) foundIn (found entries sets arrangement placed left) c
 
   -- nothing is found
-  pub answer-none : (r : SearchAnswer) → r ≡ withoutModel Impossible → found entries sets arrangement placed left ≡ none → r ≡ answerOf (found entries sets arrangement placed left)
+  pub answer-none : (r : SearchAnswer) → r ≡ withoutModel Accepted Impossible → found entries sets arrangement placed left ≡ none → r ≡ answerOf (found entries sets arrangement placed left)
   unfolding answerOf
   answer-none r is e = is ∙ ap answerOf (sym e)
 

@@ -1,4 +1,4 @@
--- What the search remembers of the classes that it has tried: a byte for each question "has this class a mask".
+-- What the search remembers of the groups of terms that it has tried: a byte for each question "has this group a mask".
 use Prim.Native.Nat.{ℕ, _^_}
 use mathlib.Core.Path.{_≡_}
 use mathlib.Core.Bool.{Bool, true, false}
@@ -6,13 +6,13 @@ use mathlib.Core.List.{List}
 use mathlib.Core.Logic.{_≢_}
 use mathlib.Core.Option.{Option, none, some}
 use lib.ListN.{length, getD}
-use Rattle.question.specs.Limits.{maxTerms}
 use Rattle.mask.specs.Entries.{rowsOfEntries}
 use Rattle.mask.specs.Least.{leastMask}
+use Rattle.search.specs.Groups.{groupCount}
 
--- the smallest mask of a class, a set of terms
-abbrev pub maskOfClass : List ℕ → ℕ → ℕ → Option ℕ
-maskOfClass entries sets class = leastMask (2 ^ sets) (rowsOfEntries entries) class
+-- the smallest mask of a group of terms, as a class
+abbrev pub maskOfGroup : List ℕ → ℕ → ℕ → Option ℕ
+maskOfGroup entries sets group = leastMask (2 ^ sets) (rowsOfEntries entries) group
 
 -- has it one
 abbrev pub isThere : Option ℕ → Bool
@@ -24,11 +24,7 @@ abbrev pub noted : Option ℕ → ℕ
 noted none = 1
 noted (some m) = 2
 
--- how many sets of terms there are
-abbrev pub classCount : ℕ
-classCount = 2 ^ maxTerms
-
--- what is noted, at the number of a class, is right
+-- what is noted, at the number of a group, is right
 pub record Memo (entries : List ℕ) (sets : ℕ) (memo : List ℕ) : Type 0 where
-  pub long : length memo ≡ classCount
-  pub right : (class : ℕ) → getD memo class 0 ≢ 0 → getD memo class 0 ≡ noted (maskOfClass entries sets class)
+  pub long : length memo ≡ groupCount
+  pub right : (group : ℕ) → getD memo group 0 ≢ 0 → getD memo group 0 ≡ noted (maskOfGroup entries sets group)

@@ -1,15 +1,14 @@
--- Where the search stands: the first terms have their class numbers, the others are still to be placed.
-use Prim.Native.Nat.{ℕ, _-_, _^_, _≤_, _<_}
+-- Where the search stands: the first terms have their class numbers, those behind them are still to be placed.
+use Prim.Native.Nat.{ℕ, _-_, _^_, _≤_}
 use mathlib.Core.Path.{_≡_}
 use mathlib.Core.List.{List}
 use mathlib.Core.Option.{Option}
-use lib.ListN.{length, getD, take, drop, replicate}
+use lib.ListN.{length, take, drop, replicate}
 use Rattle.question.specs.Limits.{maxTerms}
 use Rattle.theory.specs.Arrangements.{classes}
 use Rattle.theory.specs.Solutions.{Solution}
 use Rattle.theory.specs.Sets.{fits}
 use Rattle.mask.specs.Entries.{rowsOfEntries}
-use Rattle.cut.specs.Members.{members}
 use Rattle.cut.specs.Behind.{foundBehind}
 
 -- the array has the class numbers of the terms placed, in `used` classes, and 0 past them
@@ -19,11 +18,6 @@ pub record Placing (arrangement : List ℕ) (placed used : ℕ) : Type 0 where
   pub few-classes : used ≤ placed
   pub counted : used ≡ classes (take placed arrangement)
   pub rest-zero : drop placed arrangement ≡ replicate (maxTerms - placed) 0
-
--- the array has the terms of each class, as a set
-pub record GroupsOf (arrangement : List ℕ) (placed : ℕ) (groups : List ℕ) : Type 0 where
-  pub long : length groups ≡ maxTerms
-  pub are : (k : ℕ) → k < maxTerms → getD groups k 0 ≡ members (take placed arrangement) k
 
 -- what is found there with so many terms still to be placed: the first model among the arrangements that begin so
 abbrev pub found : List ℕ → ℕ → List ℕ → ℕ → ℕ → Option Solution

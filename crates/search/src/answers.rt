@@ -1,16 +1,13 @@
-// What the search answers: the verdict, and beside it the first model.
-use outcome::Refusal;
+// What the search answers: whether the rows are accepted, and if they are the verdict, and beside it the first model.
+use outcome::Check;
+use outcome::Verdict;
+use question::Question;
 ghost use mathlib.Core.Path.{_≡_};
-ghost use Rattle.search.specs.Verdicts.{isPossible};
-ghost use Rattle.search.specs.Answers.{withoutModel};
-
-pub enum Verdict {
-    Possible,
-    Impossible,
-    Refused(Refusal),
-}
+ghost use Rattle.search.specs.Answers.{isPossible, withoutModel};
 
 pub struct SearchAnswer {
+    // Why the rows are refused, if they are. What stands beside a refusal is a filler, which never says "impossible".
+    pub outcome: Check,
     pub verdict: Verdict,
     // How many classes there are, the class number of each term, and the mask of each class. Entries past the counts are 0.
     pub classes: usize,
@@ -19,12 +16,13 @@ pub struct SearchAnswer {
 }
 
 // The answer where there is no model to show.
-pub(crate) fn without_model(verdict: Verdict) -> SearchAnswer
-    ensures { λ r. ⌜ r ≡ withoutModel verdict ⌝ }
+pub(crate) fn without_model(outcome: Check, verdict: Verdict) -> SearchAnswer
+    ensures { λ r. ⌜ r ≡ withoutModel outcome verdict ⌝ }
 {
     let arrangement: [u8; 12] = [0; 12];
     let masks: [u32; 12] = [0; 12];
     SearchAnswer {
+        outcome: outcome,
         verdict: verdict,
         classes: 0,
         arrangement: arrangement,
@@ -39,6 +37,5 @@ pub(crate) fn is_possible(verdict: Verdict) -> bool
     match verdict {
         Verdict::Possible => true,
         Verdict::Impossible => false,
-        Verdict::Refused(_) => false,
     }
 }

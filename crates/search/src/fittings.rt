@@ -1,117 +1,91 @@
-// Terms still to be placed, put into sets that stand for classes or into new ones, as far as sets of terms have masks: first those that rows ask for, each in every set and in a new one.
+// Terms still to be placed, put into groups that stand for classes or into new ones, as far as groups of terms have masks: first the asked ones, each in every group and in a new one.
+use crate::groups::Groups;
 use crate::groups::has_term;
 use crate::groups::term_alone;
-use crate::groups::with_set;
+use crate::groups::with_group;
 use crate::groups::with_term;
 use crate::memos::has_mask;
-use crate::rests::settled_fits;
+use crate::rest_fittings::settled_fits;
+use crate::steps::Fixed;
+use crate::steps::Span;
 ghost use mathlib.Core.Path.{_≡_};
 ghost use mathlib.Core.Bool.{false};
-ghost use Prim.Native.Nat.{_+_, _≤_, _<_};
-ghost use Rattle.question.specs.Limits.{maxSets, maxTerms};
-ghost use Rattle.search.specs.Memos.{classCount, Memo};
-ghost use Rattle.search.specs.Fittings.{AreSets, OthersAre, NoPart, NothingFits};
+ghost use Prim.Native.Nat.{_≤_, _<_};
+ghost use Rattle.search.specs.Groups.{groupCount, AreGroups};
+ghost use Rattle.search.specs.Memos.{Memo};
+ghost use Rattle.search.specs.Steps.{allTerms, Ready};
+ghost use Rattle.search.specs.Fittings.{NoPart, NothingFits};
 
-// Has the set a mask, as it is or with some of the others among the terms from `term` on, `left` of them.
-fn part_fits(
-    entries: &[u64],
-    memo: &mut [u8],
-    others: u32,
-    class: u32,
-    term: usize,
-    left: usize,
-    sets: u8,
-) -> bool
-    requires { ⌜ (sets ≤ maxSets) × (term + left ≤ maxTerms) ⌝ }
-    requires { ⌜ Memo (now entries) sets (now memo) ⌝ }
-    requires { ⌜ class < classCount ⌝ }
-    requires { ⌜ OthersAre (now entries) others (term + left) ⌝ }
-    ensures { λ r. ⌜ (r ≡ false → NoPart (now (entries .entry)) sets others term class (term + left)) ⌝ }
-    ensures { λ r. ⌜ Memo (now (entries .entry)) sets (now (memo .exit)) ⌝ }
+// Has the group a mask, as it is or with some of the asked terms ahead.
+fn part_fits(entries: &[u64], memo: &mut [u8], fixed: Fixed, group: u32, ahead: Span) -> bool
+    requires { ⌜ Ready (now entries) fixed (now memo) ahead ⌝ }
+    requires { ⌜ group < groupCount ⌝ }
+    ensures { λ r. ⌜ (r ≡ false → NoPart (now (entries .entry)) fixed (ahead .term) group (allTerms ahead)) ⌝ }
+    ensures { λ r. ⌜ Memo (now (entries .entry)) (fixed .sets) (now (memo .exit)) ⌝ }
 {
+    let term = ahead.term;
+    let left = ahead.left;
     if left == 0 {
-        return has_mask(entries, memo, class, sets);
+        return has_mask(entries, memo, group, fixed.sets);
     }
-    if part_fits(entries, memo, others, class, term + 1, left - 1, sets) {
+    let next = Span {
+        term: term + 1,
+        left: left - 1,
+    };
+    if part_fits(entries, memo, fixed, group, next) {
         return true;
     }
-    if !has_term(others, term) {
+    if !has_term(fixed.asked, term) {
         return false;
     }
     let own = term_alone(term);
-    part_fits(entries, memo, others, class | own, term + 1, left - 1, sets)
+    part_fits(entries, memo, fixed, group | own, next)
 }
 
-// Of the terms from `term` on, `left` of them, the others go into sets, and then the rest from `from` on.
+// The asked terms ahead go into groups, and then the rest of the unplaced ones.
 pub(crate) fn all_fit(
     entries: &[u64],
     memo: &mut [u8],
-    others: u32,
-    groups: [u32; 12],
-    used: u8,
-    from: usize,
-    term: usize,
-    left: usize,
-    sets: u8,
+    fixed: Fixed,
+    groups: Groups,
+    unplaced: Span,
+    ahead: Span,
 ) -> bool
-    requires { ⌜ (sets ≤ maxSets) × (used ≤ term) × (from ≤ term) × (term + left ≤ maxTerms) ⌝ }
-    requires { ⌜ Memo (now entries) sets (now memo) ⌝ }
-    requires { ⌜ AreSets groups used ⌝ }
-    requires { ⌜ OthersAre (now entries) others (term + left) ⌝ }
-    ensures { λ r. ⌜ (r ≡ false → NothingFits (now (entries .entry)) sets others term groups used (term + left)) ⌝ }
-    ensures { λ r. ⌜ Memo (now (entries .entry)) sets (now (memo .exit)) ⌝ }
+    requires { ⌜ Ready (now entries) fixed (now memo) ahead ⌝ }
+    requires { ⌜ AreGroups groups ⌝ }
+    requires { ⌜ (groups .count ≤ ahead .term) × (allTerms unplaced ≡ allTerms ahead) ⌝ }
+    ensures { λ r. ⌜ (r ≡ false → NothingFits (now (entries .entry)) fixed (ahead .term) groups (allTerms ahead)) ⌝ }
+    ensures { λ r. ⌜ Memo (now (entries .entry)) (fixed .sets) (now (memo .exit)) ⌝ }
 {
+    let term = ahead.term;
+    let left = ahead.left;
     if left == 0 {
-        return settled_fits(entries, memo, others, groups, used, from, term - from, sets);
+        return settled_fits(entries, memo, fixed, groups, unplaced);
     }
-    if !has_term(others, term) {
-        return all_fit(
-            entries,
-            memo,
-            others,
-            groups,
-            used,
-            from,
-            term + 1,
-            left - 1,
-            sets,
-        );
+    let next = Span {
+        term: term + 1,
+        left: left - 1,
+    };
+    if !has_term(fixed.asked, term) {
+        return all_fit(entries, memo, fixed, groups, unplaced, next);
     }
     let own = term_alone(term);
+    let terms = groups.terms;
+    let count = groups.count;
     let mut k: u8 = 0;
-    while k < used {
-        let class = groups[k as usize] | own;
-        if part_fits(entries, memo, others, class, term + 1, left - 1, sets) {
-            let next = with_term(groups, k, term);
-            if all_fit(
-                entries,
-                memo,
-                others,
-                next,
-                used,
-                from,
-                term + 1,
-                left - 1,
-                sets,
-            ) {
+    while k < count {
+        let group = terms[k as usize] | own;
+        if part_fits(entries, memo, fixed, group, next) {
+            let more = with_term(groups, k, term);
+            if all_fit(entries, memo, fixed, more, unplaced, next) {
                 return true;
             }
         }
         k += 1;
     }
-    if !part_fits(entries, memo, others, own, term + 1, left - 1, sets) {
+    if !part_fits(entries, memo, fixed, own, next) {
         return false;
     }
-    let next = with_set(groups, used, term);
-    all_fit(
-        entries,
-        memo,
-        others,
-        next,
-        used + 1,
-        from,
-        term + 1,
-        left - 1,
-        sets,
-    )
+    let more = with_group(groups, term);
+    all_fit(entries, memo, fixed, more, unplaced, next)
 }

@@ -1,21 +1,27 @@
-// Sets of terms: one term's, and those that stand for classes.
+// Groups of terms, each a number whose bits are its terms: one term's, and those that stand for classes.
 ghost use mathlib.Core.Path.{_≡_};
-ghost use Prim.Native.Nat.{ℕ, _^_, _≤_, _<_};
-ghost use lib.Bits.{bitOr};
-ghost use lib.ListN.{getD, set};
+ghost use Prim.Native.Nat.{ℕ, _+_, _^_, _≤_, _<_, max};
+ghost use lib.ListN.{getD, take};
 ghost use Rattle.question.specs.Limits.{maxTerms};
 ghost use Rattle.question.specs.Masks.{bit};
-ghost use Rattle.search.specs.Placings.{GroupsOf};
+ghost use Rattle.theory.specs.Arrangements.{classes};
+ghost use Rattle.search.specs.Groups.{withTerm, withGroup, GroupsOf};
 
-// Is the term in the set.
-pub(crate) fn has_term(set: u32, term: usize) -> bool
-    requires { ⌜ term < 32 ⌝ }
-    ensures { λ r. ⌜ r ≡ bit set term ⌝ }
-{
-    (set >> (term as u32)) % 2 == 1
+// Groups that stand for classes: the terms of each, and how many groups there are.
+pub(crate) struct Groups {
+    pub(crate) terms: [u32; 12],
+    pub(crate) count: u8,
 }
 
-// The set of one term.
+// Is the term in the group.
+pub(crate) fn has_term(group: u32, term: usize) -> bool
+    requires { ⌜ term < 32 ⌝ }
+    ensures { λ r. ⌜ r ≡ bit group term ⌝ }
+{
+    (group >> (term as u32)) % 2 == 1
+}
+
+// The group of one term.
 pub(crate) fn term_alone(term: usize) -> u32
     requires { ⌜ term < 32 ⌝ }
     ensures { λ r. ⌜ r ≡ 2 ^ term ⌝ }
@@ -23,35 +29,56 @@ pub(crate) fn term_alone(term: usize) -> u32
     1 << (term as u32)
 }
 
-// The sets with a term in that of the class.
-pub(crate) fn with_term(groups: [u32; 12], class: u8, term: usize) -> [u32; 12]
-    requires { ⌜ (class < maxTerms) × (term < maxTerms) ⌝ }
-    ensures { λ r. ⌜ r ≡ set groups class (bitOr (getD groups class 0) (2 ^ term)) ⌝ }
+// How many groups there are with the group k, where `count` stood before.
+fn count_with(count: u8, k: u8) -> u8
+    requires { ⌜ k < maxTerms ⌝ }
+    ensures { λ r. ⌜ r ≡ max count (k + 1) ⌝ }
 {
-    let k = class as usize;
-    let own = term_alone(term);
-    let mut next = groups;
-    next[k] = groups[k] | own;
-    next
+    if count < k + 1 { k + 1 } else { count }
 }
 
-// The sets with a new one, of one term.
-pub(crate) fn with_set(groups: [u32; 12], class: u8, term: usize) -> [u32; 12]
-    requires { ⌜ (class < maxTerms) × (term < maxTerms) ⌝ }
-    ensures { λ r. ⌜ r ≡ set groups class (2 ^ term) ⌝ }
+// The groups with a term in the group k, one of these or the next.
+pub(crate) fn with_term(groups: Groups, k: u8, term: usize) -> Groups
+    requires { ⌜ (k < maxTerms) × (term < maxTerms) ⌝ }
+    ensures { λ r. ⌜ r ≡ withTerm groups k term ⌝ }
 {
     let own = term_alone(term);
-    let mut next = groups;
-    next[class as usize] = own;
-    next
+    let count = count_with(groups.count, k);
+    let terms = groups.terms;
+    let mut next = terms;
+    next[k as usize] = terms[k as usize] | own;
+    Groups {
+        terms: next,
+        count: count,
+    }
 }
 
-// The sets of the classes of a whole arrangement.
-pub(crate) fn groups_of(arrangement: [u8; 12], terms: usize) -> [u32; 12]
+// The groups with a new one, of one term.
+pub(crate) fn with_group(groups: Groups, term: usize) -> Groups
+    requires { ⌜ (groups .count < maxTerms) × (term < maxTerms) ⌝ }
+    ensures { λ r. ⌜ r ≡ withGroup groups term ⌝ }
+{
+    let own = term_alone(term);
+    let count = groups.count;
+    let mut next = groups.terms;
+    next[count as usize] = own;
+    Groups {
+        terms: next,
+        count: count + 1,
+    }
+}
+
+// The groups of the classes of a whole arrangement.
+pub(crate) fn groups_of(arrangement: [u8; 12], terms: usize) -> Groups
     requires { ⌜ (terms ≤ maxTerms) × ((t : ℕ) → t < terms → getD arrangement t 0 < maxTerms) ⌝ }
-    ensures { λ r. ⌜ GroupsOf arrangement terms r ⌝ }
+    ensures { λ r. ⌜ GroupsOf arrangement terms (r .terms) ⌝ }
+    ensures { λ r. ⌜ r .count ≡ classes (take terms arrangement) ⌝ }
 {
-    let mut groups: [u32; 12] = [0; 12];
+    let none: [u32; 12] = [0; 12];
+    let mut groups = Groups {
+        terms: none,
+        count: 0,
+    };
     let mut t: usize = 0;
     while t < terms {
         let next = with_term(groups, arrangement[t], t);

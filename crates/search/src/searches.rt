@@ -1,19 +1,22 @@
 // The search over rows that are handed in: the row check's refusals, else the first model.
 use crate::answers::SearchAnswer;
-use crate::answers::Verdict;
 use crate::answers::is_possible;
 use crate::answers::without_model;
+use crate::asked::terms_asked;
 use crate::entries::gather;
+use crate::groups::Groups;
 use crate::groups::groups_of;
 use crate::models::model;
-use crate::others::others_asked;
 use crate::placings::place;
 use crate::renamings::PLAIN;
 use crate::renamings::ROOM;
 use crate::renamings::back_from;
 use crate::renamings::by_weight;
 use crate::renamings::is_renaming;
+use crate::steps::Fixed;
+use crate::steps::Span;
 use outcome::Check;
+use outcome::Verdict;
 use row::check_rows;
 ghost use mathlib.Core.Path.{_≡_};
 ghost use mathlib.Core.List.{map};
@@ -22,6 +25,7 @@ ghost use lib.Dec.{T};
 ghost use lib.ListN.{length, take};
 ghost use Rattle.outcome.specs.declared.checks.Check.the-variants.{Accepted};
 ghost use Rattle.question.specs.Limits.{maxSets, maxTerms};
+ghost use Rattle.theory.specs.Arrangements.{classes};
 ghost use Rattle.theory.specs.Solutions.{allRows};
 ghost use Rattle.theory.specs.FirstModels.{modelOf, firstModel};
 ghost use Rattle.theory.specs.Sets.{fits, rowDeclared};
@@ -39,21 +43,22 @@ fn search_entries(entries: &[u64], terms: usize, sets: u8) -> SearchAnswer
     requires { ⌜ T (allRows (rowDeclared terms sets) (rowsOfEntries (now entries))) ⌝ }
     ensures { λ r. ⌜ r ≡ answerOf (firstModel fits terms (2 ^ sets) (rowsOfEntries (now (entries .entry)))) ⌝ }
 {
-    let arrangement: [u8; 12] = [0; 12];
-    let groups: [u32; 12] = [0; 12];
     let mut memo: [u8; 4096] = [0; 4096];
-    let others = others_asked(entries);
-    place(
-        entries,
-        &mut memo,
-        arrangement,
-        groups,
-        0,
-        terms,
-        0,
-        others,
-        sets,
-    )
+    let fixed = Fixed {
+        asked: terms_asked(entries),
+        sets: sets,
+    };
+    let arrangement: [u8; 12] = [0; 12];
+    let none: [u32; 12] = [0; 12];
+    let groups = Groups {
+        terms: none,
+        count: 0,
+    };
+    let unplaced = Span {
+        term: 0,
+        left: terms,
+    };
+    place(entries, &mut memo, fixed, arrangement, groups, unplaced)
 }
 
 // Rows that the check accepts, with new numbers for the sets. The table is room for their entries.
@@ -79,25 +84,17 @@ fn model_again(
     rows: &[u32],
     table: &mut [u64],
     arrangement: [u8; 12],
-    classes: usize,
     terms: usize,
     sets: u8,
 ) -> SearchAnswer
     requires { ⌜ rowsChecked terms sets (now rows) ≡ Accepted ⌝ }
     requires { ⌜ length (now rows) ≤ length (now table) ⌝ }
-    requires { ⌜ Placing arrangement terms classes ⌝ }
+    requires { ⌜ Placing arrangement terms (classes (take terms arrangement)) ⌝ }
     ensures { λ r. ⌜ r ≡ answerOf (modelOf fits (2 ^ sets) (map rowOf (now (rows .entry))) (take terms arrangement)) ⌝ }
 {
     let count = gather(rows, PLAIN, table);
     let groups = groups_of(arrangement, terms);
-    model(
-        &table[..count],
-        arrangement,
-        groups,
-        terms,
-        classes as u8,
-        sets,
-    )
+    model(&table[..count], arrangement, groups, terms, sets)
 }
 
 // Rows that the check accepts: the first model depends only on which rows there are, so they are searched as entries in another order;
@@ -118,8 +115,7 @@ fn search_accepted(rows: &[u32], terms: usize, sets: u8) -> SearchAnswer
         return found;
     }
     let arrangement = found.arrangement;
-    let classes = found.classes;
-    model_again(rows, &mut table, arrangement, classes, terms, sets)
+    model_again(rows, &mut table, arrangement, terms, sets)
 }
 
 // The first model of the rows over so many terms and sets, or that there is none, or why the rows are refused.
@@ -127,7 +123,7 @@ pub fn search(rows: &[u32], terms: usize, sets: u8) -> SearchAnswer
     ensures { λ r. ⌜ r ≡ searched terms sets (now (rows .entry)) ⌝ }
 {
     match check_rows(rows, terms, sets) {
-        Check::Refused(refusal) => without_model(Verdict::Refused(refusal)),
+        Check::Refused(refusal) => without_model(Check::Refused(refusal), Verdict::Possible),
         Check::Accepted => search_accepted(rows, terms, sets),
     }
 }

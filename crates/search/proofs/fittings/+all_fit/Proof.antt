@@ -1,8 +1,9 @@
--- `all_fit` is a recursion over the terms left, whose number falls. Its loop stands before the set k:
--- with the term in one of the sets before, nothing fits, and the memo is right.
+-- `all_fit` is a recursion over the terms left, whose number falls. Its loop stands before the group k:
+-- with the term in one of the groups before, nothing fits, and the memo is right.
 use Prim.Native.Nat.{ℕ, _+_, _-_, _^_, _≤_, _<_}
-use mathlib.Core.Path.{_≡_, sym, subst, _∙_}
+use mathlib.Core.Path.{_≡_, refl, sym, ap, subst, _∙_}
 use mathlib.Core.Bool.{true≢false}
+use mathlib.Core.List.{List}
 use mathlib.Core.Logic.{⊎-elim}
 use native.Mathlib.Omega.{arith}
 use borrow.Author.Needs.{needs}
@@ -17,16 +18,19 @@ use Rattle.mask.specs.Entries.{rowsOfEntries}
 use Rattle.cut.specs.Asked.{before}
 use Rattle.cut.proofs.AskedLaws.{before-next}
 use Rattle.cut.proofs.TriedLaws.{Tried, tried-none, tried-stuck, tried-lacks, tried-alone, tried-new}
-use Rattle.search.specs.Memos.{Memo, classCount}
-use Rattle.search.specs.Fittings.{OthersAre, NoPart, NothingFits}
-use Rattle.search.proofs.StepLaws.{some-left as a-term-left, room as one-of-twelve, as-many}
-use Rattle.search.proofs.FitLaws.{alone-small, joined-small, sets-joined, sets-new, fits-past}
+use Rattle.search.specs.declared.groups.Groups.{Groups}
+use Rattle.search.specs.Groups.{groupCount, withTerm, withGroup}
+use Rattle.search.specs.Memos.{Memo}
+use Rattle.search.specs.Steps.{allTerms, Ready}
+use Rattle.search.specs.Fittings.{NoPart, NothingFits}
+use Rattle.search.proofs.StepLaws.{some-left as a-term-left, room as one-of-twelve, as-many, behindFirst, ready-next, ready-same}
+use Rattle.search.proofs.FitLaws.{alone-small, joined-small, joined-count, groups-joined, groups-new, fits-past, fits-joined}
 use Rattle.search.proofs.groups.has_term.Reads as has-term
 use Rattle.search.proofs.groups.term_alone.Reads as term-alone
-use Rattle.search.proofs.groups.with_set.Reads as with-set
+use Rattle.search.proofs.groups.with_group.Reads as with-group
 use Rattle.search.proofs.groups.with_term.Reads as with-term
 use Rattle.search.proofs.fittings.part_fits.Reads as part-fits
-use Rattle.search.proofs.rests.settled_fits.Reads as settled-fits
+use Rattle.search.proofs.rest_fittings.settled_fits.Reads as settled-fits
 use Rattle.search.proofs.fittings.all_fit.Reads as all-fit
 use Rattle.search.proofs.fittings.all_fit.Kinds as kinds
 use Rattle.search.proofs.fittings.+all_fit.Lts-all_fit as lts
@@ -35,13 +39,14 @@ use Rattle.search.proofs.fittings.+all_fit.Tie.{close}
 
 -- how many terms are left
 abbrev μ-all-fit : Measures 2 kinds.ps ℕ
-μ-all-fit κs a = a .1 .1 .1 .1 .1 .1 .1 .0
+μ-all-fit κs a = a .1 .1 .1 .1 .1 .0 .left
 
 abbrev Inv-loop : lts.InvT-loop
-Inv-loop entries memo₀ others used from term left sets groups own k₀ memo k = (k ≤ used) × Tried fits (2 ^ sets) (rowsOfEntries entries) (before others term) groups used (term + left) term k × Memo entries sets memo
+Inv-loop entries memo₀ fixed groups unplaced term left next own terms count k₀ memo k =
+    (k ≤ groups .count) × Tried fits (2 ^ (fixed .sets)) (rowsOfEntries entries) (before (fixed .asked) term) (groups .terms) (groups .count) (term + left) term k × Memo entries (fixed .sets) memo
 
 abbrev μ-loop : lts.MeasureT-loop
-μ-loop entries memo₀ others used from term left sets groups own k₀ memo k = used - k
+μ-loop entries memo₀ fixed groups unplaced term left next own terms count k₀ memo k = groups .count - k
 
 -- a call with t terms left, and what the calls inside it ask and tell
 module _ (t : ℕ) where
@@ -62,56 +67,52 @@ module _ (t : ℕ) where
     part-fits.Learnt,
     with-term.Asked,
     with-term.Learnt,
-    with-set.Asked,
-    with-set.Learnt,
+    with-group.Asked,
+    with-group.Learnt,
   )
 
   -- no term is left
-  none-left : (c : lts.Then1 claims here all-fit.Post Inv-loop μ-loop) → let a = c .before .before .before .args in a .from + (a .term - a .from) ≡ a .term
-  none-left c = omega (arith, c .before .before .before .pre .1 .0 .2)
-
-  as-before : (c : lts.Then1 claims here all-fit.Post Inv-loop μ-loop) → let a = c .before .before .before .args in a .term + a .left ≡ a .term
+  as-before : (c : lts.Then1 claims here all-fit.Post Inv-loop μ-loop) → let a = c .before .before .before .args in allTerms (a .ahead) ≡ a .ahead .term
   as-before c = omega (arith, c .if1 .taken)
 
   settled-requires : lts.Need-settled-fits-requires claims here all-fit.Post Inv-loop μ-loop
-  settled-requires c κs =
-      let e = c .before in
-      let s = e .before .before .before in
-      let p = s .pre .1 in (
-        (p .0 .0, omega (arith, p .0 .1, p .0 .3), omega (arith, none-left e, p .0 .3)),
-        (p .1 .0, (p .1 .1 .0, subst (OthersAre (s .args .entries .now) (s .args .others)) (as-before e ∙ sym (none-left e)) (p .1 .1 .1))),
-      )
+  settled-requires c κs = let p = c .before .before .before .before .pre .1 in (ready-same (p .0) (sym (p .1 .1 .1)), (p .1 .0, omega (arith, p .1 .1 .0, p .0 .few-terms)))
 
   returns : lts.Need-returns claims here all-fit.Post Inv-loop μ-loop
   returns c =
       let call = c .before .before in
       let e = call .before .before in
-      let a = e .before .before .before .args in (
-        λ r. subst (λ n. NothingFits (a .entries .now) (a .sets) (a .others) (a .term) (a .t4) (a .used) n) (sym (as-before e))
-            (subst (λ n. NothingFits (a .entries .now) (a .sets) (a .others) n (a .t4) (a .used) n) (none-left e) (call .settled-fits .ensures .0 r)),
+      let s = e .before .before .before in
+      let a = s .args in (
+        λ r. subst (λ n. NothingFits (a .entries .now) (a .fixed) n (a .groups) (allTerms (a .ahead))) (as-before e)
+            (subst (λ n. NothingFits (a .entries .now) (a .fixed) n (a .groups) n) (s .pre .1 .1 .1 .1) (call .settled-fits .ensures .0 r)),
         call .settled-fits .ensures .1,
       )
 
   -- some term is left, and it is one of twelve
-  some-left : (c : lts.Else1 claims here all-fit.Post Inv-loop μ-loop) → 0 < c .before .before .before .args .left
-  some-left c = let a = c .before .before .before .args in a-term-left (a .term) (a .left) (c .if1 .left)
+  some-left : (c : lts.Else1 claims here all-fit.Post Inv-loop μ-loop) → 0 < c .before .before .before .args .ahead .left
+  some-left c = let a = c .before .before .before .args in a-term-left (a .ahead .term) (a .ahead .left) (c .if1 .left)
 
-  room : (c : lts.Else1 claims here all-fit.Post Inv-loop μ-loop) → c .before .before .before .args .term < maxTerms
-  room c = let s = c .before .before .before in one-of-twelve (s .args .term) (s .args .left) (c .if1 .left) (s .pre .1 .0 .3)
+  room : (c : lts.Else1 claims here all-fit.Post Inv-loop μ-loop) → c .before .before .before .args .ahead .term < maxTerms
+  room c = let s = c .before .before .before in one-of-twelve (s .args .ahead .term) (s .args .ahead .left) (c .if1 .left) (s .pre .1 .0 .few-terms)
 
   -- with the next term there are as many
-  all : (c : lts.Else1 claims here all-fit.Post Inv-loop μ-loop) → let a = c .before .before .before .args in a .term + a .left ≡ a .term + 1 + (a .left - 1)
-  all c = let a = c .before .before .before .args in as-many (a .term) (a .left) (c .if1 .left)
+  all : (c : lts.Else1 claims here all-fit.Post Inv-loop μ-loop) → let a = c .before .before .before .args in allTerms (a .ahead) ≡ a .ahead .term + 1 + (a .ahead .left - 1)
+  all c = let a = c .before .before .before .args in as-many (a .ahead .term) (a .ahead .left) (c .if1 .left)
 
-  others-next : (c : lts.Else1 claims here all-fit.Post Inv-loop μ-loop) → let a = c .before .before .before .args in OthersAre (a .entries .now) (a .others) (a .term + 1 + (a .left - 1))
-  others-next c = let s = c .before .before .before in subst (OthersAre (s .args .entries .now) (s .args .others)) (all c) (s .pre .1 .1 .1 .1)
+  ready : (c : lts.Else1 claims here all-fit.Post Inv-loop μ-loop) {now : List ℕ} → let a = c .before .before .before .args in Memo (a .entries .now) (a .fixed .sets) now → Ready (a .entries .now) (a .fixed) now (behindFirst (a .ahead))
+  ready c = ready-next (c .before .before .before .pre .1 .0) (c .if1 .left)
+
+  -- the same terms are counted
+  same-terms : (c : lts.Else1 claims here all-fit.Post Inv-loop μ-loop) → let a = c .before .before .before .args in allTerms (a .unplaced) ≡ allTerms (behindFirst (a .ahead))
+  same-terms c = c .before .before .before .pre .1 .1 .1 .1 ∙ all c
 
   skip-requires : lts.Need-all-fit-requires claims here all-fit.Post Inv-loop μ-loop
   skip-requires c κs =
       let e = c .before .before .before in
       let p = e .before .before .before .pre in (
         omega (arith, some-left e, p .0),
-        ((p .1 .0 .0, omega (arith, p .1 .0 .1), omega (arith, p .1 .0 .2), omega (arith, some-left e, p .1 .0 .3)), (p .1 .1 .0, (p .1 .1 .1 .0, others-next e))),
+        (ready e (p .1 .0 .remembered), (p .1 .1 .0, (omega (arith, p .1 .1 .1 .0), same-terms e))),
       )
 
   returns-2 : lts.Need-returns-2 claims here all-fit.Post Inv-loop μ-loop
@@ -120,44 +121,40 @@ module _ (t : ℕ) where
       let asked = call .before .before .before .has-term in
       let e = call .before .before .before .before in
       let a = e .before .before .before .args in (
-        λ r. fits-past (a .entries .now) (a .sets) (a .others) (a .term) (a .term + a .left) (sym (asked .ensures) ∙ not-true (asked .result) (call .before .before .if2 .taken)) (a .t4) (a .used)
-            (subst (NothingFits (a .entries .now) (a .sets) (a .others) (a .term + 1) (a .t4) (a .used)) (sym (all e)) (call .all-fit .ensures .0 r)),
+        λ r. fits-past (a .entries .now) (a .fixed) (a .ahead .term) (allTerms (a .ahead)) (sym (asked .ensures) ∙ not-true (asked .result) (call .before .before .if2 .taken)) (a .groups)
+            (subst (NothingFits (a .entries .now) (a .fixed) (a .ahead .term + 1) (a .groups)) (sym (all e)) (call .all-fit .ensures .0 r)),
         call .all-fit .ensures .1,
       )
 
   -- what stands before the loop, and the call's start
   abbrev first : lts.At-loop claims here all-fit.Post Inv-loop μ-loop → lts.Else1 claims here all-fit.Post Inv-loop μ-loop
-  first l = l .before .before .before .before
+  first l = l .before .before .before .before .before
 
   abbrev start : lts.At-loop claims here all-fit.Post Inv-loop μ-loop → lts.Start claims here all-fit.Post Inv-loop μ-loop
   start l = first l .before .before .before
 
-  -- the set of the term alone
-  own-is : (l : lts.At-loop claims here all-fit.Post Inv-loop μ-loop) → l .before .term-alone .result ≡ 2 ^ (start l .args .term)
-  own-is l = l .before .term-alone .ensures
+  -- the group of the term alone
+  own-is : (l : lts.At-loop claims here all-fit.Post Inv-loop μ-loop) → l .before .before .term-alone .result ≡ 2 ^ (start l .args .ahead .term)
+  own-is l = l .before .before .term-alone .ensures
 
-  -- there is room for a new set, and so for each before it
-  free : (l : lts.At-loop claims here all-fit.Post Inv-loop μ-loop) → start l .args .used < length (start l .args .t4)
-  free l = omega (arith, room (first l), start l .pre .1 .0 .1)
+  -- there is room for a new group, and so for each before it
+  free : (l : lts.At-loop claims here all-fit.Post Inv-loop μ-loop) → start l .args .groups .count < length (start l .args .groups .terms)
+  free l = omega (arith, room (first l), start l .pre .1 .1 .1 .0, start l .pre .1 .1 .0 .long)
 
-  inside : (c : lts.In-loop claims here all-fit.Post Inv-loop μ-loop) → c .before .loop .k < length (start (c .before) .args .t4)
+  inside : (c : lts.In-loop claims here all-fit.Post Inv-loop μ-loop) → c .before .loop .k < length (start (c .before) .args .groups .terms)
   inside c = omega (arith, c .loop-test .taken, free (c .before))
-
-  -- what is asked of a call for the next term, but for the memo and the sets
-  numbers : (c : lts.Else1 claims here all-fit.Post Inv-loop μ-loop) → let a = c .before .before .before .args in a .term + 1 + (a .left - 1) ≤ maxTerms
-  numbers c = omega (arith, some-left c, c .before .before .before .pre .1 .0 .3)
 
   part-requires : lts.Need-part-fits-requires claims here all-fit.Post Inv-loop μ-loop
   part-requires c κs =
       let turn = c .before in
       let l = turn .before in
       let s = start l in
-      let group = getD (s .args .t4) (l .loop .k) 0 in
-      let small = joined-small group (s .args .term) (room (first l)) (s .pre .1 .1 .1 .0 (l .loop .k) (turn .loop-test .taken)) in
-      ((s .pre .1 .0 .0, numbers (first l)), (l .loop .inv .2, (subst (λ n. bitOr group n < classCount) (sym (own-is l)) small, others-next (first l))))
+      let group = getD (s .args .groups .terms) (l .loop .k) 0 in
+      let small = joined-small group (s .args .ahead .term) (room (first l)) (s .pre .1 .1 .0 .small (l .loop .k) (turn .loop-test .taken)) in
+      (ready (first l) (l .loop .inv .2), subst (λ n. bitOr group n < groupCount) (sym (own-is l)) small)
 
-  in-set-requires : lts.Need-all-fit-requires-2 claims here all-fit.Post Inv-loop μ-loop
-  in-set-requires c κs =
+  in-group-requires : lts.Need-all-fit-requires-2 claims here all-fit.Post Inv-loop μ-loop
+  in-group-requires c κs =
       let turn = c .before .before .before .before .before .before .before in
       let l = turn .before in
       let e = first l in
@@ -166,10 +163,10 @@ module _ (t : ℕ) where
       let next = c .before .with-term in (
         omega (arith, some-left e, p .0),
         (
-          (p .1 .0 .0, omega (arith, p .1 .0 .1), omega (arith, p .1 .0 .2), numbers e),
+          ready e (c .before .before .before .before .before .part-fits .ensures .1),
           (
-            c .before .before .before .before .before .part-fits .ensures .1,
-            (sets-joined (s .args .t4) (s .args .used) (s .args .term) (room e) (p .1 .1 .1 .0) (l .loop .k) (turn .loop-test .taken) (inside turn) (next .result) (next .ensures), others-next e),
+            groups-joined (s .args .groups) (s .args .ahead .term) (room e) (p .1 .1 .0) (l .loop .k) (turn .loop-test .taken) (inside turn) (next .result) (next .ensures),
+            (omega (arith, p .1 .1 .1 .0, joined-count (s .args .groups) (l .loop .k) (s .args .ahead .term) (turn .loop-test .taken) (next .result) (next .ensures)), same-terms e),
           ),
         ),
       )
@@ -179,23 +176,25 @@ module _ (t : ℕ) where
       let turn = c .before .before .before .before .before in
       let l = turn .before in
       let a = start l .args in
-      let known = before (a .others) (a .term) in
-      let more = before (a .others) (a .term + 1) in
+      let known = before (a .fixed .asked) (a .ahead .term) in
+      let more = before (a .fixed .asked) (a .ahead .term + 1) in
       let rows = rowsOfEntries (a .entries .now) in
       let asked = c .before .before .before .part-fits in
       ⊎-elim
       (λ w. (
         omega arith,
-        tried-stuck fits (2 ^ (a .sets)) rows known (a .t4) (a .used) (a .term + a .left) (a .term) more (before-next (a .others) (a .term)) (l .loop .k) (turn .loop-test .taken) (inside turn) (l .loop .inv .1) (w .1 .result) (w .1 .ensures)
-            (subst (NothingFits (a .entries .now) (a .sets) (a .others) (a .term + 1) (w .1 .result) (a .used)) (sym (all (first l))) (w .3 .ensures .0 (w .6 .left))),
-        subst (Memo (a .entries .now) (a .sets)) (sym (w .7)) (w .3 .ensures .1),
+        tried-stuck fits (2 ^ (a .fixed .sets)) rows known (a .groups .terms) (a .groups .count) (allTerms (a .ahead)) (a .ahead .term) more (before-next (a .fixed .asked) (a .ahead .term)) (l .loop .k) (turn .loop-test .taken) (inside turn) (l .loop .inv .1)
+            (withTerm (a .groups) (l .loop .k) (a .ahead .term) .terms) refl
+            (fits-joined (a .entries .now) (a .fixed) (a .ahead .term + 1) (allTerms (a .ahead)) (a .groups) (l .loop .k) (a .ahead .term) (turn .loop-test .taken) (w .1 .result) (w .1 .ensures)
+            (subst (NothingFits (a .entries .now) (a .fixed) (a .ahead .term + 1) (w .1 .result)) (sym (all (first l))) (w .3 .ensures .0 (w .6 .left)))),
+        subst (Memo (a .entries .now) (a .fixed .sets)) (sym (w .7)) (w .3 .ensures .1),
       ))
       (λ w. (
         omega arith,
-        tried-lacks fits (2 ^ (a .sets)) rows known (a .t4) (a .used) (a .term + a .left) (a .term) more (before-next (a .others) (a .term)) (l .loop .k) (turn .loop-test .taken) (inside turn) (l .loop .inv .1)
-            (subst (λ n. NoPart (a .entries .now) (a .sets) (a .others) (a .term + 1) (bitOr (getD (a .t4) (l .loop .k) 0) n) (a .term + a .left)) (own-is l)
-            (subst (NoPart (a .entries .now) (a .sets) (a .others) (a .term + 1) _) (sym (all (first l))) (asked .ensures .0 (w .0 .left)))),
-        subst (Memo (a .entries .now) (a .sets)) (sym (w .1)) (asked .ensures .1),
+        tried-lacks fits (2 ^ (a .fixed .sets)) rows known (a .groups .terms) (a .groups .count) (allTerms (a .ahead)) (a .ahead .term) more (before-next (a .fixed .asked) (a .ahead .term)) (l .loop .k) (turn .loop-test .taken) (inside turn) (l .loop .inv .1)
+            (subst (λ n. NoPart (a .entries .now) (a .fixed) (a .ahead .term + 1) (bitOr (getD (a .groups .terms) (l .loop .k) 0) n) (allTerms (a .ahead))) (own-is l)
+            (subst (NoPart (a .entries .now) (a .fixed) (a .ahead .term + 1) _) (sym (all (first l))) (asked .ensures .0 (w .0 .left)))),
+        subst (Memo (a .entries .now) (a .fixed .sets)) (sym (w .1)) (asked .ensures .1),
       ))
       (c .if3 .came)
 
@@ -203,33 +202,36 @@ module _ (t : ℕ) where
   alone-requires c κs =
       let l = c .before .before in
       let s = start l in
-      ((s .pre .1 .0 .0, numbers (first l)), (l .loop .inv .2, (subst (λ n. n < classCount) (sym (own-is l)) (alone-small (s .args .term) (room (first l))), others-next (first l))))
+      (ready (first l) (l .loop .inv .2), subst (λ n. n < groupCount) (sym (own-is l)) (alone-small (s .args .ahead .term) (room (first l))))
 
-  -- each set was tried, and the term alone is a part of no class
+  -- each group was tried, and the term alone is a part of no class
   returns-4 : lts.Need-returns-4 claims here all-fit.Post Inv-loop μ-loop
   returns-4 c =
       let asked = c .before .before .before .part-fits2 in
       let after = c .before .before .before .before .before in
       let l = after .before in
       let a = start l .args in (
-        λ r. tried-alone fits (2 ^ (a .sets)) (rowsOfEntries (a .entries .now)) (before (a .others) (a .term)) (a .t4) (a .used) (a .term + a .left) (a .term) (before (a .others) (a .term + 1)) (before-next (a .others) (a .term)) (l .loop .k) (after .loop-test .left) (omega (arith, some-left (first l)))
+        λ r. tried-alone fits (2 ^ (a .fixed .sets)) (rowsOfEntries (a .entries .now)) (before (a .fixed .asked) (a .ahead .term)) (a .groups .terms) (a .groups .count) (allTerms (a .ahead)) (a .ahead .term) (before (a .fixed .asked) (a .ahead .term + 1)) (before-next (a .fixed .asked) (a .ahead .term)) (l .loop .k) (after .loop-test .left) (omega (arith, some-left (first l)))
             (l .loop .inv .1)
-            (subst (λ n. NoPart (a .entries .now) (a .sets) (a .others) (a .term + 1) n (a .term + a .left)) (own-is l)
-            (subst (NoPart (a .entries .now) (a .sets) (a .others) (a .term + 1) _) (sym (all (first l))) (asked .ensures .0 (not-true (asked .result) (c .if5 .taken))))),
+            (subst (λ n. NoPart (a .entries .now) (a .fixed) (a .ahead .term + 1) n (allTerms (a .ahead))) (own-is l)
+            (subst (NoPart (a .entries .now) (a .fixed) (a .ahead .term + 1) _) (sym (all (first l))) (asked .ensures .0 (not-true (asked .result) (c .if5 .taken))))),
         asked .ensures .1,
       )
 
-  new-set-requires : lts.Need-all-fit-requires-3 claims here all-fit.Post Inv-loop μ-loop
-  new-set-requires c κs =
+  new-group-requires : lts.Need-all-fit-requires-3 claims here all-fit.Post Inv-loop μ-loop
+  new-group-requires c κs =
       let l = c .before .before .before .before .before .before .before .before in
       let e = first l in
       let s = start l in
       let p = s .pre in
-      let next = c .before .with-set in (
+      let next = c .before .with-group in (
         omega (arith, some-left e, p .0),
         (
-          (p .1 .0 .0, omega (arith, p .1 .0 .1), omega (arith, p .1 .0 .2), numbers e),
-          (c .before .before .before .before .before .part-fits2 .ensures .1, (sets-new (s .args .t4) (s .args .used) (s .args .term) (room e) (p .1 .1 .1 .0) (free l) (next .result) (next .ensures), others-next e)),
+          ready e (c .before .before .before .before .before .part-fits2 .ensures .1),
+          (
+            groups-new (s .args .groups) (s .args .ahead .term) (room e) (p .1 .1 .0) (free l) (next .result) (next .ensures),
+            (omega (arith, p .1 .1 .1 .0, ap (λ (g : Groups). g .count) (next .ensures)), same-terms e),
+          ),
         ),
       )
 
@@ -239,55 +241,46 @@ module _ (t : ℕ) where
       let after = call .before .before .before .before .before .before .before .before in
       let l = after .before in
       let a = start l .args in
-      let next = call .before .before .with-set in (
-        λ r. tried-new fits (2 ^ (a .sets)) (rowsOfEntries (a .entries .now)) (before (a .others) (a .term)) (a .t4) (a .used) (a .term + a .left) (a .term) (before (a .others) (a .term + 1)) (before-next (a .others) (a .term)) (l .loop .k) (after .loop-test .left) (omega (arith, some-left (first l)))
-            (l .loop .inv .1) (free l) (next .result) (next .ensures)
-            (subst (NothingFits (a .entries .now) (a .sets) (a .others) (a .term + 1) (next .result) (a .used + 1)) (sym (all (first l))) (call .all-fit3 .ensures .0 r)),
+      let next = call .before .before .with-group in (
+        λ r. tried-new fits (2 ^ (a .fixed .sets)) (rowsOfEntries (a .entries .now)) (before (a .fixed .asked) (a .ahead .term)) (a .groups .terms) (a .groups .count) (allTerms (a .ahead)) (a .ahead .term) (before (a .fixed .asked) (a .ahead .term + 1)) (before-next (a .fixed .asked) (a .ahead .term)) (l .loop .k) (after .loop-test .left) (omega (arith, some-left (first l)))
+            (l .loop .inv .1) (free l) (withGroup (a .groups) (a .ahead .term) .terms) refl
+            (subst (λ g. NothingFits (a .entries .now) (a .fixed) (a .ahead .term + 1) g (allTerms (a .ahead))) (next .ensures)
+            (subst (NothingFits (a .entries .now) (a .fixed) (a .ahead .term + 1) (next .result)) (sym (all (first l))) (call .all-fit3 .ensures .0 r))),
         call .all-fit3 .ensures .1,
       )
 
 pub +all-fit-spec : {M : Type 1} → statement M
 +all-fit-spec =
     close μ-all-fit λ t. lts.spec (claims t) (here t) all-fit.Post Inv-loop μ-loop
-    (λ c. c .before .before .before .before .pre .1 .0 .2)
     (settled-requires t)
-    (λ c. c .before .before .settled-fits .ensures .1 .long ∙ sym (c .before .before .before .before .before .before .before .pre .1 .1 .0 .long))
+    (λ c. c .before .before .settled-fits .ensures .1 .long ∙ sym (c .before .before .before .before .before .before .before .pre .1 .0 .remembered .long))
     (returns t)
+    (λ c. omega (arith, room t c))
+    (λ c. some-left t c)
     (λ c κs. omega (arith, room t c))
-    (λ c. omega (arith, room t (c .before .before .before)))
-    (λ c. some-left t (c .before .before .before))
     (skip-requires t)
-    (λ c. c .before .before .all-fit .ensures .1 .long ∙ sym (c .before .before .before .before .before .before .before .before .before .pre .1 .1 .0 .long))
+    (λ c. c .before .before .all-fit .ensures .1 .long ∙ sym (c .before .before .before .before .before .before .before .before .before .pre .1 .0 .remembered .long))
     (returns-2 t)
     (λ c κs. omega (arith, room t (c .before .before)))
     (λ c.
-    let s = c .before .before .before .before .before .before in
+    let s = c .before .before .before .before .before .before .before in
     let a = s .args in
-    (omega arith, tried-none fits (2 ^ (a .sets)) (rowsOfEntries (a .entries .now)) (before (a .others) (a .term)) (a .t4) (a .used) (a .term + a .left) (a .term), s .pre .1 .1 .0))
+    (omega arith, tried-none fits (2 ^ (a .fixed .sets)) (rowsOfEntries (a .entries .now)) (before (a .fixed .asked) (a .ahead .term)) (a .groups .terms) (a .groups .count) (allTerms (a .ahead)) (a .ahead .term), s .pre .1 .0 .remembered))
     (λ c. search needs)
     (λ c. omega (arith, inside t c))
     (λ c. omega (arith, inside t c))
-    (λ c. omega (arith, room t (first t (c .before .before))))
-    (λ c. some-left t (first t (c .before .before)))
     (part-requires t)
-    (λ c κs. let turn = c .before .before .before .before .before in (omega (arith, turn .loop-test .taken, start t (turn .before) .pre .1 .0 .1, room t (first t (turn .before))), room t (first t (turn .before))))
-    (λ c. omega (arith, room t (first t (c .before .before .before .before .before .before .before .before))))
-    (λ c. some-left t (first t (c .before .before .before .before .before .before .before .before)))
-    (in-set-requires t)
-    (λ c. c .before .before .before .all-fit2 .ensures .1 .long ∙ sym (start t (c .before .before .before .before .before .before .before .before .before .before .before .before) .pre .1 .1 .0 .long))
+    (λ c κs. let turn = c .before .before .before .before .before in (omega (arith, turn .loop-test .taken, start t (turn .before) .pre .1 .1 .1 .0, room t (first t (turn .before))), room t (first t (turn .before))))
+    (in-group-requires t)
+    (λ c. c .before .before .before .all-fit2 .ensures .1 .long ∙ sym (start t (c .before .before .before .before .before .before .before .before .before .before .before .before) .pre .1 .0 .remembered .long))
     (λ c. ((λ r. absurd (true≢false r)), c .before .before .before .all-fit2 .ensures .1))
     (λ c. search needs)
     (λ c. search needs)
     (loop-again t)
-    (λ c. omega (arith, room t (first t (c .before .before))))
-    (λ c. some-left t (first t (c .before .before)))
     (alone-requires t)
-    (λ c. c .before .before .before .part-fits2 .ensures .1 .long ∙ sym (start t (c .before .before .before .before .before .before) .pre .1 .1 .0 .long))
+    (λ c. c .before .before .before .part-fits2 .ensures .1 .long ∙ sym (start t (c .before .before .before .before .before .before) .pre .1 .0 .remembered .long))
     (returns-4 t)
-    (λ c κs. let l = c .before .before .before .before .before .before in (omega (arith, start t l .pre .1 .0 .1, room t (first t l)), room t (first t l)))
-    (λ c. omega (arith, start t (c .before .before .before .before .before .before .before .before) .pre .1 .0 .1, room t (first t (c .before .before .before .before .before .before .before .before))))
-    (λ c. omega (arith, room t (first t (c .before .before .before .before .before .before .before .before))))
-    (λ c. some-left t (first t (c .before .before .before .before .before .before .before .before)))
-    (new-set-requires t)
-    (λ c. c .before .before .all-fit3 .ensures .1 .long ∙ sym (start t (c .before .before .before .before .before .before .before .before .before .before .before) .pre .1 .1 .0 .long))
+    (λ c κs. let l = c .before .before .before .before .before .before in (omega (arith, start t l .pre .1 .1 .1 .0, room t (first t l)), room t (first t l)))
+    (new-group-requires t)
+    (λ c. c .before .before .all-fit3 .ensures .1 .long ∙ sym (start t (c .before .before .before .before .before .before .before .before .before .before .before) .pre .1 .0 .remembered .long))
     (returns-5 t)

@@ -4,9 +4,9 @@ use borrow.Author.Needs.{needs}
 use lib.Dec.{T}
 use lib.ListN.{take}
 use lib.Seq.{length-take-le}
-use native.Mathlib.Omega.{arith}
 use Rattle.theory.specs.Sets.{rowDeclared}
 use Rattle.row.proofs.AcceptedRows.{rows-keep, all-declared}
+use Rattle.search.specs.Placings.{Placing}
 use Rattle.search.proofs.RenamedLaws.{class-few, plain-says, model-plain}
 use Rattle.search.proofs.searches.model_again.Statement.{statement}
 use Rattle.search.proofs.searches.model_again.Tie as tie
@@ -18,7 +18,7 @@ model-requires c κs =
     let kept = rows-keep (a .terms) (a .sets) (a .rows .now) (s .pre .0) in
     let declared = all-declared (a .terms) (a .sets) (a .rows .now) (kept .all-good) in
     let gathered = c .before .before .before .before .gather .ensures in
-    (kept .few-sets, (subst T (sym (plain-says (a .terms) (a .sets) (a .rows .now) declared (kept .few-sets) _ _ (gathered .0) (rowDeclared (a .terms) (a .sets)))) declared, (s .pre .1 .1, c .before .groups-of .ensures)))
+    (kept .few-sets, (subst T (sym (plain-says (a .terms) (a .sets) (a .rows .now) declared (kept .few-sets) _ _ (gathered .0) (rowDeclared (a .terms) (a .sets)))) declared, (subst (Placing (a .arrangement) (a .terms)) (sym (c .before .groups-of .ensures .1)) (s .pre .1 .1), c .before .groups-of .ensures .0)))
 
 returns : tie.Need-returns
 returns c =
@@ -36,7 +36,6 @@ model-again-spec =
     (λ c κs. let s = c .before .before .before .before .before .before in (s .pre .1 .1 .few-terms, class-few (s .pre .1 .1)))
     (λ c. search needs)
     (λ c. sym (length-take-le _ _ (c .before .before .before .before .gather .ensures .0 .few)))
-    (λ c. let here = c .before .before .before .before .before .before .before .before .pre .1 .1 in omega (arith, here .few-classes, here .few-terms))
     model-requires
     (λ c. search needs)
     returns)

@@ -4,6 +4,7 @@ use native.Mathlib.Omega.{arith}
 use borrow.Author.Needs.{needs}
 use borrow.Author.Tests.{not-true, not-false}
 use Rattle.row.proofs.AcceptedRows.{RowsAccepted, rows-keep, all-declared}
+use Rattle.search.proofs.PlacingLaws.{placing-counted}
 use Rattle.search.proofs.RenamingLaws.{plain-stays}
 use Rattle.search.proofs.RenamedLaws.{answer-plain, answer-none, found-placing, answer-some}
 use Rattle.search.proofs.searches.search_accepted.Statement.{statement}
@@ -38,9 +39,9 @@ model-again-requires c κs =
       s .pre,
       (
         omega (arith, kept s .few-rows, found .ensures .1),
-        found-placing (a .terms) (a .sets) (a .rows .now) (all-declared (a .terms) (a .sets) (a .rows .now) (kept s .all-good)) (asked .before .before .by-weight .result) (asked .before .back-from .result)
+        placing-counted (found-placing (a .terms) (a .sets) (a .rows .now) (all-declared (a .terms) (a .sets) (a .rows .now) (kept s .all-good)) (asked .before .before .by-weight .result) (asked .before .back-from .result)
             (asked .is-renaming .ensures (not-false (asked .is-renaming .result) (possible .before .before .before .before .if1 .left))) (found .result) (found .ensures .0) (kept s .few-terms)
-            (sym (possible .is-possible .ensures) ∙ not-false (possible .is-possible .result) (c .before .before .if2 .left)),
+            (sym (possible .is-possible .ensures) ∙ not-false (possible .is-possible .result) (c .before .before .if2 .left))),
       ),
     )
 

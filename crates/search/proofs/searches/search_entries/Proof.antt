@@ -10,8 +10,9 @@ use Rattle.theory.specs.Sets.{rowDeclared}
 use Rattle.mask.specs.Entries.{rowsOfEntries}
 use Rattle.cut.proofs.AskedLaws.{asked-before}
 use Rattle.cut.proofs.SetLaws.{setTests, declared-within}
-use Rattle.search.specs.Answers.{padded}
-use Rattle.search.specs.Fittings.{OthersAre}
+use Rattle.outcome.specs.Padded.{padded}
+use Rattle.question.specs.Limits.{maxTerms}
+use Rattle.search.specs.Steps.{AskedAre}
 use Rattle.search.proofs.PlacingLaws.{placing-start}
 use Rattle.search.proofs.GroupLaws.{groups-none}
 use Rattle.search.proofs.MemoLaws.{memo-start}
@@ -23,16 +24,15 @@ place-requires : tie.Need-place-requires
 place-requires c κs =
     let s = c .before .before .before in
     let a = s .args in
-    let asked = c .before .others-asked in
+    let asked = c .before .terms-asked in
     let all : a .terms ≡ 0 + a .terms = omega arith in (
-      record { few-sets = s .pre .0 .1; remembered = memo-start (a .entries .now) (a .sets); placing = placing-start; grouped = groups-none (padded []) },
-      (
-        omega (arith, s .pre .0 .0),
-        (
-          subst (λ n. T (allRows (rowDeclared n (a .sets)) (rowsOfEntries (a .entries .now)))) all (s .pre .1),
-          subst (OthersAre (a .entries .now) (asked .result)) all (asked-before setTests (a .terms) (asked .result) (rowsOfEntries (a .entries .now)) (declared-within (a .terms) (a .sets) (rowsOfEntries (a .entries .now)) (s .pre .1)) (asked .ensures)),
-        ),
-      ),
+      record {
+        few-sets = s .pre .0 .1;
+        few-terms = omega (arith, s .pre .0 .0);
+        remembered = memo-start (a .entries .now) (a .sets);
+        asked-are = subst (AskedAre (a .entries .now) (asked .result)) all (asked-before setTests (a .terms) (asked .result) (rowsOfEntries (a .entries .now)) (declared-within (a .terms) (a .sets) (rowsOfEntries (a .entries .now)) (s .pre .1)) (asked .ensures));
+      },
+      (placing-start, (groups-none (padded maxTerms []), subst (λ n. T (allRows (rowDeclared n (a .sets)) (rowsOfEntries (a .entries .now)))) all (s .pre .1))),
     )
 
 returns : tie.Need-returns

@@ -8,6 +8,7 @@ use native.Mathlib.Decide.{decLt}
 use lib.Dec.{T}
 use lib.ListN.{length, getD, take, set}
 use lib.Seq.{ext-getD, getD-take, length-take-le, getD-set-same, getD-set-other}
+use Rattle.outcome.specs.declared.checks.Check.the-variants.{Accepted}
 use Rattle.question.specs.Limits.{maxTerms}
 use Rattle.theory.specs.Lists.{Every}
 use Rattle.theory.specs.Arrangements.{classes}
@@ -21,11 +22,11 @@ use Rattle.cut.specs.Members.{members}
 use Rattle.cut.specs.Families.{Within}
 use Rattle.cut.proofs.WholeLaws.{mask-whole}
 use Rattle.cut.proofs.SetLaws.{setTests, declared-within}
-use Rattle.search.specs.declared.answers.Verdict.the-variants.{Possible, Impossible}
+use Rattle.outcome.specs.declared.verdicts.Verdict.the-variants.{Possible, Impossible}
 use Rattle.search.specs.declared.answers.SearchAnswer.{SearchAnswer}
 use Rattle.search.specs.Answers.{withoutModel, answerOf}
 use Rattle.search.specs.Placings.{Placing}
-use Rattle.search.specs.Memos.{maskOfClass}
+use Rattle.search.specs.Memos.{maskOfGroup}
 use Rattle.search.proofs.PlacingLaws.{RestZero, rest-padded, placed-length, placing-padded}
 
 -- a value for each number, or one without
@@ -61,29 +62,29 @@ module _ (entries : List ℕ) (sets : ℕ) (arrangement : List ℕ) (terms used 
   abbrev l : List ℕ
   l = take terms arrangement
 
-  smallest-is : (k : ℕ) → smallest entries sets l k ≡ maskOfClass entries sets (members l k)
+  smallest-is : (k : ℕ) → smallest entries sets l k ≡ maskOfGroup entries sets (members l k)
   smallest-is k = mask-whole setTests l k (2 ^ sets) (rowsOfEntries entries) (subst (λ n. Every (Within setTests n) (rowsOfEntries entries)) (sym (placed-length here)) (declared-within terms sets (rowsOfEntries entries) declared))
 
   module _ (k class : ℕ) (is : class ≡ members l k) where
     -- a class has none
-    pub leaf-none : (r : SearchAnswer) → k < used → maskOfClass entries sets class ≡ none → r ≡ withoutModel Impossible → r ≡ answerOf (modelOf fits (2 ^ sets) (rowsOfEntries entries) l)
+    pub model-none : (r : SearchAnswer) → k < used → maskOfGroup entries sets class ≡ none → r ≡ withoutModel Accepted Impossible → r ≡ answerOf (modelOf fits (2 ^ sets) (rowsOfEntries entries) l)
     unfolding modelOf answerOf
-    leaf-none r lt e i = i ∙ ap (λ o. answerOf (Option·map (withMasks l) o)) (sym (each-none (classes l) (smallest entries sets l) k (omega (arith, here .counted)) (smallest-is k ∙ ap (maskOfClass entries sets) (sym is) ∙ e)))
+    model-none r lt e i = i ∙ ap (λ o. answerOf (Option·map (withMasks l) o)) (sym (each-none (classes l) (smallest entries sets l) k (omega (arith, here .counted)) (smallest-is k ∙ ap (maskOfGroup entries sets) (sym is) ∙ e)))
 
     -- one mask more
-    pub leaf-more : (masks : List ℕ) (m : ℕ) → k < length masks → maskOfClass entries sets class ≡ some m → MasksTo entries sets l k masks → MasksTo entries sets l (k + 1) (set masks k m)
-    leaf-more masks m lt e before i h = go (decLt i k)
+    pub model-more : (masks : List ℕ) (m : ℕ) → k < length masks → maskOfGroup entries sets class ≡ some m → MasksTo entries sets l k masks → MasksTo entries sets l (k + 1) (set masks k m)
+    model-more masks m lt e before i h = go (decLt i k)
       where
         go : Dec (i < k) → smallest entries sets l i ≡ some (getD (set masks k m) i 0)
         go (yes p) = before i p ∙ ap (λ (x : ℕ). some x) (sym (getD-set-other masks k i m 0 (λ q. omega arith)))
         go (no p) = let q : i ≡ k = omega arith in
-            ap (smallest entries sets l) q ∙ smallest-is k ∙ ap (maskOfClass entries sets) (sym is) ∙ e ∙ ap (λ (x : ℕ). some x) (sym (ap (λ j. getD (set masks k m) j 0) q ∙ getD-set-same masks k m 0 lt))
+            ap (smallest entries sets l) q ∙ smallest-is k ∙ ap (maskOfGroup entries sets) (sym is) ∙ e ∙ ap (λ (x : ℕ). some x) (sym (ap (λ j. getD (set masks k m) j 0) q ∙ getD-set-same masks k m 0 lt))
 
   -- every class has one
-  pub leaf-all : (masks : List ℕ) (r : SearchAnswer) → length masks ≡ maxTerms → RestZero used masks → MasksTo entries sets l used masks →
-      r ≡ record { verdict = Possible; classes = used; arrangement = arrangement; masks = masks } → r ≡ answerOf (modelOf fits (2 ^ sets) (rowsOfEntries entries) l)
+  pub model-all : (masks : List ℕ) (r : SearchAnswer) → length masks ≡ maxTerms → RestZero used masks → MasksTo entries sets l used masks →
+      r ≡ record { outcome = Accepted; verdict = Possible; classes = used; arrangement = arrangement; masks = masks } → r ≡ answerOf (modelOf fits (2 ^ sets) (rowsOfEntries entries) l)
   unfolding modelOf answerOf
-  leaf-all masks r long zero-rest each i = i ∙ shown ∙ ap (λ o. answerOf (Option·map (withMasks l) o)) (sym all)
+  model-all masks r long zero-rest each i = i ∙ shown ∙ ap (λ o. answerOf (Option·map (withMasks l) o)) (sym all)
     where
       few : used ≤ maxTerms
       few = omega (arith, here .few-classes, here .few-terms)
@@ -92,5 +93,5 @@ module _ (entries : List ℕ) (sets : ℕ) (arrangement : List ℕ) (terms used 
       all = each-some (classes l) (smallest entries sets l) (take used masks) (length-take-le used masks (omega arith) ∙ here .counted)
           (λ k lt. let inside : k < used = omega (arith, here .counted) in each k inside ∙ ap (λ (x : ℕ). some x) (sym (getD-take used masks k 0 inside)))
 
-      shown : record { verdict = Possible; classes = used; arrangement = arrangement; masks = masks } ≡ answerOf (some (withMasks l (take used masks)))
+      shown : record { outcome = Accepted; verdict = Possible; classes = used; arrangement = arrangement; masks = masks } ≡ answerOf (some (withMasks l (take used masks)))
       shown = cc (here .counted, placing-padded here, rest-padded masks used long few zero-rest)

@@ -1,4 +1,4 @@
-// The other terms that rows ask for.
+// The asked terms: those that rows of another term ask for.
 use crate::groups::term_alone;
 use mask::row_in;
 use mask::terms_in;
@@ -10,7 +10,7 @@ ghost use Rattle.question.specs.Masks.{bit};
 ghost use Rattle.mask.specs.Entries.{testIn, termsIn, rowsOfEntries};
 ghost use Rattle.cut.specs.Asked.{asks, askedKnown, allAskedKnown};
 
-// A set with d, if there is another term than d among those that ask for it.
+// A group with d, if there is another term than d among those that ask for it.
 fn asked_besides(terms: u32, d: u8) -> u32
     requires { ⌜ d < 32 ⌝ }
     ensures { λ r. ⌜ ((c : ℕ) → T (bit terms c) → T (eqb d c || bit r d)) ⌝ }
@@ -19,8 +19,8 @@ fn asked_besides(terms: u32, d: u8) -> u32
     if terms == own { 0 } else { own }
 }
 
-// A set with the term that the rows of the entry ask for, if they ask for one. A kind above 9 is read as kind 0.
-fn other_asked(entry: u64) -> u32
+// A group with the term that the rows of the entry ask for, if they ask for one. A kind above 9 is read as kind 0.
+fn term_asked(entry: u64) -> u32
     ensures { λ r. ⌜ ((c : ℕ) → T (bit (termsIn entry) c) → T (askedKnown asks (bit r) c (testIn entry))) ⌝ }
 {
     let terms = terms_in(entry);
@@ -41,16 +41,16 @@ fn other_asked(entry: u64) -> u32
     }
 }
 
-// A set with those of all rows.
-pub(crate) fn others_asked(entries: &[u64]) -> u32
+// A group with those of all rows.
+pub(crate) fn terms_asked(entries: &[u64]) -> u32
     ensures { λ r. ⌜ T (allAskedKnown asks (bit r) (rowsOfEntries (now (entries .entry)))) ⌝ }
 {
-    let mut others: u32 = 0;
+    let mut asked: u32 = 0;
     let mut i: usize = 0;
     while i < entries.len() {
-        let one = other_asked(entries[i]);
-        others = others | one;
+        let one = term_asked(entries[i]);
+        asked = asked | one;
         i += 1;
     }
-    others
+    asked
 }

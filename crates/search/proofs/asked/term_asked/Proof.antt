@@ -1,4 +1,4 @@
--- `other_asked` goes by the kind of the rows: an arm for each, and a kind above 9 says that the terms are the same.
+-- `term_asked` goes by the kind of the rows: an arm for each, and a kind above 9 says that the terms are the same.
 use Prim.Native.Nat.{ℕ}
 use mathlib.Core.Path.{_≡_}
 use borrow.Author.Needs.{needs}
@@ -9,8 +9,8 @@ use Rattle.row.specs.Rows.{rowOf}
 use Rattle.mask.specs.Entries.{rowIn, termsIn}
 use Rattle.mask.proofs.RowLaws.{places-are-bits, past-kinds}
 use Rattle.cut.proofs.AskedLaws.{one-known}
-use Rattle.search.proofs.others.other_asked.Statement.{statement}
-use Rattle.search.proofs.others.other_asked.Tie as tie
+use Rattle.search.proofs.asked.term_asked.Statement.{statement}
+use Rattle.search.proofs.asked.term_asked.Tie as tie
 
 -- the parts of the row that the entry has, and its terms
 parts : (c : tie.After-unpack) → c .unpack .result ≡ partsOf (rowIn (c .before .before .before .args .entry))
@@ -63,8 +63,8 @@ returns-11 : tie.Need-returns-11
 unfolding rowOf
 returns-11 c d h = rw (← (parts (c .before .before)), past-kinds _ _ _ _ (c .before .match .rest)) (one-known (bit (c .asked-besides3 .result)) d (c .before .before .unpack .result .first) (c .asked-besides3 .ensures d (terms (c .before .before) d h)))
 
-pub other-asked-spec : {M : Type 1} → statement M
-other-asked-spec =
+pub term-asked-spec : {M : Type 1} → statement M
+term-asked-spec =
     tie.close
     (tie.spec
     (λ c κs. search needs)

@@ -10,14 +10,14 @@ use Rattle.question.specs.Masks.{bit}
 use Rattle.question.proofs.TestLaws.{T-true}
 use Rattle.theory.proofs.BitLaws.{bit-alone}
 use Rattle.mask.proofs.BitLaws.{only-bit}
-use Rattle.search.proofs.others.asked_besides.Statement.{statement}
-use Rattle.search.proofs.others.asked_besides.Tie as tie
+use Rattle.search.proofs.asked.asked_besides.Statement.{statement}
+use Rattle.search.proofs.asked.asked_besides.Tie as tie
 
 or-right : (a b : Bool) → T b → T (a || b)
 or-right true b h = tt
 or-right false b h = h
 
--- the set has d alone, and so c is d
+-- the group has d alone, and so c is d
 itself : (terms d : ℕ) → terms ≡ 2 ^ d → (b : Bool) (c : ℕ) → T (bit terms c) → T (eqb d c || b)
 itself terms d is b c h = go (ℕ-discrete c d)
   where
