@@ -4,6 +4,6 @@ use Rattle.outcome.specs.declared.verdicts.Verdict.{Verdict}
 use Rattle.outcome.specs.declared.verdicts.Verdict.the-variants.{Possible, Impossible}
 
 -- 1 possible, 0 impossible
-abbrev pub verdictNumber : Verdict → ℕ
-verdictNumber Possible = 1
-verdictNumber Impossible = 0
+abbrev pub verdictByte : Verdict → ℕ
+verdictByte Possible = 1
+verdictByte Impossible = 0

@@ -19,7 +19,7 @@ use Rattle.question.specs.Checks.{IsAccepted}
 use Rattle.question.specs.Meaning.{Assignment, IsAssignment, AllHold}
 use Rattle.question.proofs.AcceptedLaws.{accepted}
 use Rattle.outcome.specs.declared.checks.Check.{Check}
-use Rattle.outcome.specs.declared.checks.Check.the-variants.{Accepted, Refused as RefusedFile}
+use Rattle.outcome.specs.declared.checks.Check.the-variants.{Accepted, Refused}
 use Rattle.question_file.specs.Bytes.{questionBytes}
 use Rattle.question_file.specs.Reads.{readQuestion}
 use Rattle.question_file.proofs.RefusalLaws.{refusal-told}
@@ -33,8 +33,16 @@ use Rattle.judge.specs.Judgements.{judged}
 use Rattle.outcome.specs.Writes.{over}
 use Rattle.outcome.specs.Calls.{Call}
 use Rattle.answer.specs.Bytes.{modelBytes, fileOf}
+use Rattle.outcome.specs.Checks.{acceptedThen}
+use Rattle.outcome.specs.Writes.{checkedThen}
+use Rattle.outcome.specs.Writes.{checkedOver}
+use Rattle.outcome.specs.Writes.{fitted}
+use Rattle.outcome.specs.Writes.{fittedOver}
+use Rattle.decision.specs.Decisions.{undecided}
+use Rattle.decision.specs.Decisions.{decidedAs}
+use Rattle.answer.specs.Answers.{asAnswer}
 use Rattle.sayfudhoum.specs.Models.{modelShown}
-use Rattle.sayfudhoum.specs.Files.{answerIn, decidedBy, fileDecided, answeredBy, answered, overBy, answeredOver}
+use Rattle.sayfudhoum.specs.Files.{answerIn, fileDecided, answered, answeredOver}
 use Rattle.sayfudhoum.specs.Numbers.{writtenNumber, decisionNumber, answerNumber, verdictNumber}
 use Rattle.sayfudhoum.proofs.ShownLaws.{judge-yes}
 use Rattle.sayfudhoum.proofs.exports.sayfudhoum_answer.Reads as answer-call
@@ -91,7 +99,7 @@ module _ (bytes : List ℕ) (e : readQuestion bytes .outcome ≡ Accepted) where
   some-first sol = answer-first q is sol .1
 
 -- no file is refused and accepted, or impossible and possible
-pub refused-accepted : {A : Type 0} {o : Check} {r : Refusal} → o ≡ RefusedFile r → o ≡ Accepted → A
+pub refused-accepted : {A : Type 0} {o : Check} {r : Refusal} → o ≡ Refused r → o ≡ Accepted → A
 refused-accepted p e = never cc
 
 pub not-both : {A : Type 0} {bytes : List ℕ} → IsImpossible bytes → IsPossible bytes → A
@@ -119,7 +127,7 @@ none-file = refl
 
 -- the ways in which `sayfudhoum_answer` ends: the number that it gives back, and the buffer that it leaves
 pub data Answers (bytes old : List ℕ) (number : ℕ) (new : List ℕ) : Type 0 where
-  file-refused : (r : Refusal) → readQuestion bytes .outcome ≡ RefusedFile r → number ≡ r .place * 256 + r .number → new ≡ old → Answers bytes old number new
+  file-refused : (r : Refusal) → readQuestion bytes .outcome ≡ Refused r → number ≡ r .place * 256 + r .number → new ≡ old → Answers bytes old number new
   too-short : readQuestion bytes .outcome ≡ Accepted → length old < length (fileOf (answerIn bytes)) → number ≡ 10 → new ≡ old → Answers bytes old number new
   impossible : IsImpossible bytes → 7 ≤ length old → number ≡ 7 * 256 → new ≡ over impossibleFile old → Answers bytes old number new
   possible : (sol : Solution) → IsShown bytes sol → length (fileOf (some sol)) ≤ length old → number ≡ length (fileOf (some sol)) * 256 → new ≡ over (fileOf (some sol)) old → Answers bytes old number new
@@ -130,8 +138,8 @@ module _ (bytes old : List ℕ) where
   answers = go (readQuestion bytes .outcome) (answerIn bytes) (ltb (length old) (length (fileOf (answerIn bytes)))) refl refl refl
     where
       go : (o : Check) (s : Option Solution) (short : Bool) → readQuestion bytes .outcome ≡ o → answerIn bytes ≡ s → ltb (length old) (length (fileOf (answerIn bytes))) ≡ short →
-          Answers bytes old (writtenNumber (answeredBy o (answerIn bytes) (length old))) (overBy o (answerIn bytes) old)
-      go (RefusedFile r) s short p n h = file-refused r p refl refl
+          Answers bytes old (writtenNumber (checkedThen o (fitted (fileOf (answerIn bytes)) (length old)))) (checkedOver o (fittedOver (fileOf (answerIn bytes)) old) old)
+      go (Refused r) s short p n h = file-refused r p refl refl
       go Accepted s true p n h = rw h (too-short p (ltb-true (length old) _ h) refl refl)
       go Accepted none false p n h =
           let room = ltb-false (length old) _ h in
@@ -143,7 +151,7 @@ module _ (bytes old : List ℕ) where
 
 -- the ways in which `sayfudhoum_verdict` ends
 pub data Decides (bytes : List ℕ) (number : ℕ) : Type 0 where
-  file-refused : (r : Refusal) → readQuestion bytes .outcome ≡ RefusedFile r → number ≡ r .place * 256 + r .number → Decides bytes number
+  file-refused : (r : Refusal) → readQuestion bytes .outcome ≡ Refused r → number ≡ r .place * 256 + r .number → Decides bytes number
   impossible : IsImpossible bytes → number ≡ 0 → Decides bytes number
   possible : (sol : Solution) → IsShown bytes sol → number ≡ 256 → Decides bytes number
 
@@ -152,8 +160,8 @@ module _ (bytes : List ℕ) where
   unfolding verdictNumber fileDecided
   decides = go (readQuestion bytes .outcome) (answerIn bytes) refl refl
     where
-      go : (o : Check) (s : Option Solution) → readQuestion bytes .outcome ≡ o → answerIn bytes ≡ s → Decides bytes (decisionNumber (decidedBy o (answerIn bytes)))
-      go (RefusedFile r) s p n = file-refused r p refl
+      go : (o : Check) (s : Option Solution) → readQuestion bytes .outcome ≡ o → answerIn bytes ≡ s → Decides bytes (decisionNumber (acceptedThen o undecided (decidedAs (asAnswer (answerIn bytes)))))
+      go (Refused r) s p n = file-refused r p refl
       go Accepted none p n = rw n (impossible (none-means bytes p .0 n) refl)
       go Accepted (some sol) p n = rw n (possible sol (some-shown bytes p sol n) refl)
 

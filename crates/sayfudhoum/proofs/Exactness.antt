@@ -10,7 +10,7 @@ use native.Mathlib.Omega.{arith}
 use lib.ListN.{length}
 use Rattle.outcome.specs.declared.refusals.Refusal.{Refusal}
 use Rattle.outcome.specs.Refusals.{refusal}
-use Rattle.outcome.specs.declared.checks.Check.the-variants.{Accepted, Refused as RefusedFile}
+use Rattle.outcome.specs.declared.checks.Check.the-variants.{Accepted, Refused}
 use Rattle.question_file.specs.Reads.{readQuestion}
 use Rattle.question_file.proofs.RefusalLaws.{refusal-told}
 use Rattle.outcome.proofs.Never.{never}
@@ -35,7 +35,7 @@ tells-one : (n : ℕ) (r s : Refusal) → Tells n r → Tells n s → r ≡ s
 tells-one n r s t u = ap₂ refusal (omega (arith, t .0, t .1, t .2, u .0, u .1, u .2)) (omega (arith, t .0, t .1, t .2, u .0, u .1, u .2))
 
 -- a refused file's number tells its refusal, which is not 10
-file-tells : (bytes : List ℕ) (r : Refusal) (n : ℕ) → readQuestion bytes .outcome ≡ RefusedFile r → n ≡ r .place * 256 + r .number → Tells n r × (r .number < 10)
+file-tells : (bytes : List ℕ) (r : Refusal) (n : ℕ) → readQuestion bytes .outcome ≡ Refused r → n ≡ r .place * 256 + r .number → Tells n r × (r .number < 10)
 file-tells bytes r n p e = let t = refusal-told bytes r p .0 in ((e, omega (arith, t .0), omega (arith, t .1)), omega (arith, t .1))
 
 -- a call of `sayfudhoum_verdict` on a file
@@ -62,15 +62,15 @@ module _ (c : Call verdict-call.Learnt) where
       go p (possible sol s n) = n
 
   -- a number whose lowest byte is not 0 exactly if the file is refused, with this number at this place
-  pub refused-exactly : (r : Refusal) → Tells (c .result) r ↔ (readQuestion asked .outcome ≡ RefusedFile r)
+  pub refused-exactly : (r : Refusal) → Tells (c .result) r ↔ (readQuestion asked .outcome ≡ Refused r)
   refused-exactly r = (λ t. told t (verdict-ends c), λ p. gives p (verdict-ends c))
     where
-      told : Tells (c .result) r → Decides asked (c .result) → readQuestion asked .outcome ≡ RefusedFile r
-      told t (file-refused s p n) = p ∙ ap RefusedFile (tells-one (c .result) s r (file-tells asked s (c .result) p n .0) t)
+      told : Tells (c .result) r → Decides asked (c .result) → readQuestion asked .outcome ≡ Refused r
+      told t (file-refused s p n) = p ∙ ap Refused (tells-one (c .result) s r (file-tells asked s (c .result) p n .0) t)
       told t (impossible i n) = absurd (omega (arith, t .0, t .1, t .2, n))
       told t (possible sol s n) = absurd (omega (arith, t .0, t .1, t .2, n))
 
-      gives : readQuestion asked .outcome ≡ RefusedFile r → Decides asked (c .result) → Tells (c .result) r
+      gives : readQuestion asked .outcome ≡ Refused r → Decides asked (c .result) → Tells (c .result) r
       gives p (file-refused s x n) = let same : s ≡ r = cc in rw same at (file-tells asked s (c .result) x n .0)
       gives p (impossible i n) = refused-accepted p (i .file-accepted)
       gives p (possible sol s n) = refused-accepted p (s .file-accepted)
@@ -163,16 +163,16 @@ module _ (c : Call answer-call.Learnt) where
       gives p short (possible sol s h n b) = absurd (omega (arith, short, h, ap (λ x. length (fileOf x)) (some-first file p sol (s .first))))
 
   -- another number whose lowest byte is not 0 exactly if the file is refused, with this number at this place
-  pub answer-refused-exactly : (r : Refusal) → (Tells (c .result) r × (r .number < 10)) ↔ (readQuestion file .outcome ≡ RefusedFile r)
+  pub answer-refused-exactly : (r : Refusal) → (Tells (c .result) r × (r .number < 10)) ↔ (readQuestion file .outcome ≡ Refused r)
   answer-refused-exactly r = (λ t. told (t .0) (t .1) (answer-ends c), λ p. gives p (answer-ends c))
     where
-      told : Tells (c .result) r → r .number < 10 → Answers file old (c .result) new → readQuestion file .outcome ≡ RefusedFile r
-      told t small (file-refused s p n b) = p ∙ ap RefusedFile (tells-one (c .result) s r (file-tells file s (c .result) p n .0) t)
+      told : Tells (c .result) r → r .number < 10 → Answers file old (c .result) new → readQuestion file .outcome ≡ Refused r
+      told t small (file-refused s p n b) = p ∙ ap Refused (tells-one (c .result) s r (file-tells file s (c .result) p n .0) t)
       told t small (too-short p h n b) = absurd (omega (arith, t .0, t .1, small, n))
       told t small (impossible i h n b) = absurd (omega (arith, t .0, t .1, t .2, n))
       told t small (possible sol s h n b) = absurd (omega (arith, t .0, t .1, t .2, n))
 
-      gives : readQuestion file .outcome ≡ RefusedFile r → Answers file old (c .result) new → Tells (c .result) r × (r .number < 10)
+      gives : readQuestion file .outcome ≡ Refused r → Answers file old (c .result) new → Tells (c .result) r × (r .number < 10)
       gives p (file-refused s x n b) = let same : s ≡ r = cc in rw same at (file-tells file s (c .result) x n)
       gives p (too-short x h n b) = refused-accepted p x
       gives p (impossible i h n b) = refused-accepted p (i .file-accepted)

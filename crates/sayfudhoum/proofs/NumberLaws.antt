@@ -3,9 +3,9 @@ use Prim.Native.Nat.{ℕ, _≤_}
 use mathlib.Core.Path.{_≡_, subst}
 use native.Mathlib.Omega.{arith}
 use Rattle.outcome.specs.declared.refusals.Refusal.{Refusal}
-use Rattle.answer.specs.declared.answers.Verdict.{Verdict}
-use Rattle.answer.specs.declared.answers.Verdict.the-variants.{Possible, Impossible}
-use Rattle.answer.specs.Bytes.{verdictByte}
+use Rattle.outcome.specs.declared.verdicts.Verdict.{Verdict}
+use Rattle.outcome.specs.declared.verdicts.Verdict.the-variants.{Possible, Impossible}
+use Rattle.outcome.specs.Verdicts.{verdictByte}
 use Rattle.outcome.specs.declared.writes.Written.{Written}
 use Rattle.outcome.specs.declared.writes.Written.the-variants.{Count, Refused as NotWritten}
 use Rattle.outcome.specs.declared.checks.Check.{Check}

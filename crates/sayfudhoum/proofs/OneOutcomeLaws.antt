@@ -3,15 +3,11 @@ use denote.Ref.{now}
 use Rattle.outcome.specs.OneResult.{OneResult}
 use Rattle.outcome.specs.OneOutcome.{OneOutcome}
 use Rattle.outcome.proofs.OneLaw.{both}
-use Rattle.sayfudhoum.proofs.decisions.decide.Reads as decide
 use Rattle.sayfudhoum.proofs.files.decide_file.Reads as decide-file
 use Rattle.sayfudhoum.proofs.files.answer_file.Reads as answer-file
 use Rattle.sayfudhoum.proofs.files.respond.Reads as respond
 use Rattle.sayfudhoum.proofs.exports.sayfudhoum_answer.Reads as sayfudhoum-answer
 use Rattle.sayfudhoum.proofs.exports.sayfudhoum_verdict.Reads as sayfudhoum-verdict
-
-decide-one : OneResult decide.Learnt
-decide-one κs given x y s t = both
 
 decide-file-one : OneResult decide-file.Learnt
 decide-file-one κs given x y s t = both

@@ -13,7 +13,7 @@ use lib.ListN.{length, take, drop, take-append-drop}
 use lib.Seq.{take-all, length-take-le}
 use Rattle.outcome.specs.declared.refusals.Refusal.{Refusal}
 use Rattle.outcome.specs.declared.checks.Check.{Check}
-use Rattle.outcome.specs.declared.checks.Check.the-variants.{Accepted, Refused as RefusedFile}
+use Rattle.outcome.specs.declared.checks.Check.the-variants.{Accepted, Refused}
 use Rattle.question_file.specs.Reads.{readQuestion}
 use Rattle.question_file.proofs.FirstBytes.{later-bytes}
 use Rattle.question_file.proofs.RoundTrips.{read-checked}
@@ -24,8 +24,9 @@ use Rattle.outcome.specs.Calls.{Call}
 use Rattle.outcome.specs.declared.writes.Written.the-variants.{Count}
 use Rattle.answer.specs.Bytes.{fileOf}
 use Rattle.answer.proofs.AnswerLaws.{some-length}
-use Rattle.sayfudhoum.specs.Files.{answerIn, reportBytes, responseBy, response, responded, respondedOver}
-use Rattle.sayfudhoum.proofs.AnsweredLaws.{file-short}
+use Rattle.outcome.specs.Checks.{acceptedThen}
+use Rattle.sayfudhoum.specs.Files.{answerIn, reportBytes, response, responded, respondedOver}
+use Rattle.decision.proofs.AnsweredLaws.{file-short}
 use Rattle.sayfudhoum.proofs.EndToEnd.{IsImpossible, IsShown, impossibleFile, none-means, some-shown, refused-accepted, not-both, possible-shown, none-file}
 use Rattle.sayfudhoum.proofs.files.respond.Reads as respond
 
@@ -35,9 +36,9 @@ module _ (bytes : List ℕ) where
   unfolding response
   response-short = go (readQuestion bytes .outcome) refl
     where
-      go : (o : Check) → readQuestion bytes .outcome ≡ o → length (responseBy o (answerIn bytes)) ≤ 49
+      go : (o : Check) → readQuestion bytes .outcome ≡ o → length (acceptedThen o reportBytes (fileOf (answerIn bytes))) ≤ 49
       go Accepted p = file-short (readQuestion bytes .question) (read-checked bytes p)
-      go (RefusedFile r) p = omega arith
+      go (Refused r) p = omega arith
 
   -- so where there is room for 49 bytes 10 never comes
   pub response-fits : (room : ℕ) → 49 ≤ room → responded bytes room ≡ Count (length (response bytes))
@@ -62,11 +63,11 @@ module _ (bytes : List ℕ) where
   -- nor the response
   pub first-response : (n : ℕ) → 395 ≤ n → response (take n bytes) ≡ response bytes
   unfolding response
-  first-response n h = ap (λ x. responseBy (x .outcome) (answer (x .question))) (first-read n h)
+  first-response n h = ap (λ x. acceptedThen (x .outcome) reportBytes (fileOf (answer (x .question)))) (first-read n h)
 
 -- what the response to a file is: the report of its refusal, or its answer
 pub data Responds (bytes out : List ℕ) : Type 0 where
-  file-refused : (r : Refusal) → readQuestion bytes .outcome ≡ RefusedFile r → out ≡ reportBytes r → Responds bytes out
+  file-refused : (r : Refusal) → readQuestion bytes .outcome ≡ Refused r → out ≡ reportBytes r → Responds bytes out
   impossible : IsImpossible bytes → out ≡ impossibleFile → Responds bytes out
   possible : (sol : Solution) → IsShown bytes sol → out ≡ fileOf (some sol) → Responds bytes out
 
@@ -76,8 +77,8 @@ module _ (bytes : List ℕ) where
   unfolding response
   response-says = go (readQuestion bytes .outcome) (answerIn bytes) refl refl
     where
-      go : (o : Check) (s : Option Solution) → readQuestion bytes .outcome ≡ o → answerIn bytes ≡ s → Responds bytes (responseBy o (answerIn bytes))
-      go (RefusedFile r) s p n = file-refused r p refl
+      go : (o : Check) (s : Option Solution) → readQuestion bytes .outcome ≡ o → answerIn bytes ≡ s → Responds bytes (acceptedThen o reportBytes (fileOf (answerIn bytes)))
+      go (Refused r) s p n = file-refused r p refl
       go Accepted none p n = impossible (none-means bytes p .0 n) (ap fileOf n ∙ none-file)
       go Accepted (some sol) p n = possible sol (some-shown bytes p sol n) (ap fileOf n)
 

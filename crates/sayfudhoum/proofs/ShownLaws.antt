@@ -26,7 +26,7 @@ use Rattle.judge.specs.declared.judging.Judgement.the-variants.{Yes}
 use Rattle.judge.specs.Models.{assigned, elementsInside, masksInside, isModel}
 use Rattle.judge.specs.Judgements.{judged}
 use Rattle.judge.proofs.Verdicts.{yes-means}
-use Rattle.answer.specs.Answers.{padded}
+use Rattle.outcome.specs.Padded.{padded}
 use Rattle.sayfudhoum.specs.Models.{modelShown}
 
 -- an entry past the numbers is 0, as an entry past the array
@@ -40,7 +40,7 @@ behind [] n i = zeros n i
 behind (x ∷ l) n zero = refl
 behind (x ∷ l) n (suc i) = behind l n i
 
-entry : (l : List ℕ) (i : ℕ) → getD (padded l) i 0 ≡ getD l i 0
+entry : (l : List ℕ) (i : ℕ) → getD (padded maxTerms l) i 0 ≡ getD l i 0
 unfolding padded
 entry l i = behind l (maxTerms - length l) i
 
@@ -48,7 +48,7 @@ module _ (q : Question) (accepted : IsAccepted q) (sol : Solution) (s : Solves q
   -- the class of a name, and the mask of a class
   class-shown : (a : ℕ) → a < q .elements → getD (modelShown sol .elements) a 0 ≡ getD (sol .arrangement) a 0
   unfolding modelShown
-  class-shown a lt = getD-take maxElements (padded (sol .arrangement)) a 0 (omega (arith, accepted .few-elements)) ∙ entry (sol .arrangement) a
+  class-shown a lt = getD-take maxElements (padded maxTerms (sol .arrangement)) a 0 (omega (arith, accepted .few-elements)) ∙ entry (sol .arrangement) a
 
   mask-shown : (k : ℕ) → getD (modelShown sol .masks) k 0 ≡ maskOf (sol .masks) k
   unfolding modelShown

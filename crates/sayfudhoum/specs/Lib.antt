@@ -1,5 +1,4 @@
 -- The definitions that the contracts cite, in the order of the data's way.
-pub mod Decisions
 pub mod Models
 pub mod Files
 pub mod Numbers

@@ -4,10 +4,10 @@ use mathlib.Core.List.{List}
 use Rattle.outcome.specs.declared.refusals.Refusal.{Refusal}
 use Rattle.outcome.specs.declared.writes.Written.{Written}
 use Rattle.outcome.specs.declared.writes.Written.the-variants.{Count, Refused as NotWritten}
-use Rattle.answer.specs.Bytes.{verdictByte}
+use Rattle.outcome.specs.Verdicts.{verdictByte}
 use Rattle.outcome.specs.declared.checks.Check.{Check}
 use Rattle.outcome.specs.declared.checks.Check.the-variants.{Accepted, Refused}
-use Rattle.sayfudhoum.specs.declared.decisions.Decision.{Decision}
+use Rattle.decision.specs.declared.decisions.Decision.{Decision}
 use Rattle.sayfudhoum.specs.Files.{fileDecided, answered}
 
 -- a refusal: its place, and its number in the lowest byte

@@ -1,11 +1,11 @@
 // The number that a call for C gives back: the lowest byte is the refusal number, or 0; the rest is the place, the count of bytes, or the verdict.
-use answer::Verdict;
 use outcome::Check;
 use outcome::Refusal;
+use outcome::Verdict;
 use outcome::Written;
 ghost use mathlib.Core.Path.{_≡_};
 ghost use Prim.Native.Nat.{_≤_};
-ghost use Rattle.answer.specs.Bytes.{verdictByte};
+ghost use Rattle.outcome.specs.Verdicts.{verdictByte};
 ghost use Rattle.sayfudhoum.specs.Numbers.{maxPlace, IsSmall, IsShort, refusalNumber, writtenNumber, outcomeNumber};
 
 fn refusal_number(refusal: Refusal) -> u64

@@ -3,6 +3,7 @@ use denote.Ref.{now}
 use mathlib.Core.Path.{sym, _∙_}
 use borrow.Author.Needs.{needs}
 use lib.ListN.{length}
+use Rattle.decision.proofs.AnsweredLaws.{answered-accepted}
 use Rattle.sayfudhoum.proofs.FileLaws.{refused-answered, refused-over, question-checked, accepted-answered, accepted-over}
 use Rattle.sayfudhoum.proofs.files.answer_file.Statement.{statement}
 use Rattle.sayfudhoum.proofs.files.answer_file.Tie as tie
@@ -20,7 +21,8 @@ returns-2 c =
     let told = c .before .before .before .before .before .enum-told .given .1 in
     let old = now (c .before .before .before .before .before .before .before .before .before .before .args .buf) in
     let w = c .before .before .answer-question .ensures in
-    (w .0 ∙ sym (accepted-answered _ _ read told (length old)), w .1 ∙ sym (accepted-over _ _ read told old))
+    let a = answered-accepted _ old (question-checked _ _ read told) in
+    (w .0 ∙ a .0 ∙ sym (accepted-answered _ _ read told (length old)), w .1 ∙ a .1 ∙ sym (accepted-over _ _ read told old))
 
 pub answer-file-spec : {M : Type 1} → statement M
 answer-file-spec =
@@ -29,7 +31,7 @@ answer-file-spec =
     (λ c κs. search needs)
     (λ c. search needs)
     (λ c. search needs)
-    (λ c κs. question-checked _ _ (c .before .before .before .before .read-question .ensures) (c .before .before .enum-told .given .1))
+    (λ c κs. search needs)
     returns
     (λ c. search needs)
     returns-2)

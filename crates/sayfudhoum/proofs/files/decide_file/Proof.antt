@@ -14,5 +14,5 @@ decide-file-spec =
     (λ c κs. search needs)
     (λ c. search needs)
     (λ c κs. search needs)
-    (λ c. c .refuse .ensures ∙ sym (refused-decided _ _ (c .before .before .before .before .read-question .ensures) _ (c .before .before .outcome .given .1)))
+    (λ c. c .refused .ensures ∙ sym (refused-decided _ _ (c .before .before .before .before .read-question .ensures) _ (c .before .before .outcome .given .1)))
     (λ c. c .decide .ensures ∙ sym (accepted-decided _ _ (c .before .before .before .before .read-question .ensures) (c .before .before .enum-told .given .1))))

@@ -5,6 +5,7 @@ use borrow.Author.Needs.{needs}
 use lib.ListN.{length}
 use Rattle.outcome.specs.Writes.{fittedOver, fitted}
 use Rattle.sayfudhoum.specs.Files.{responded, respondedOver}
+use Rattle.decision.proofs.AnsweredLaws.{answered-accepted}
 use Rattle.sayfudhoum.proofs.FileLaws.{refused-response, question-checked, accepted-response}
 use Rattle.sayfudhoum.proofs.files.respond.Statement.{statement}
 use Rattle.sayfudhoum.proofs.files.respond.Tie as tie
@@ -25,7 +26,8 @@ returns-2 c =
     let is = sym (accepted-response _ _ (s .read-question .ensures) (c .before .before .before .before .before .enum-told .given .1)) in
     let old = now (s .before .before .before .args .buf) in
     let w = c .before .before .answer-question .ensures in
-    (w .0 ∙ ap (λ l. fitted l (length old)) is, w .1 ∙ ap (λ l. fittedOver l old) is)
+    let a = answered-accepted _ old (question-checked _ _ (s .read-question .ensures) (c .before .before .before .before .before .enum-told .given .1)) in
+    (w .0 ∙ a .0 ∙ ap (λ l. fitted l (length old)) is, w .1 ∙ a .1 ∙ ap (λ l. fittedOver l old) is)
 
 pub respond-spec : {M : Type 1} → statement M
 respond-spec =
@@ -35,7 +37,7 @@ respond-spec =
     (λ c. search needs)
     (λ c κs. search needs)
     (λ c. search needs)
-    (λ c κs. question-checked _ _ (c .before .before .before .before .read-question .ensures) (c .before .before .enum-told .given .1))
+    (λ c κs. search needs)
     (λ c. search needs)
     returns
     (λ c. search needs)
