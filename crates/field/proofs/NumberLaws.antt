@@ -4,8 +4,8 @@ use mathlib.Core.Path.{_≡_, refl, sym, ap, ap₂, _∙_}
 use mathlib.Core.List.{List, [], _∷_, _++_, append-nil, append-assoc}
 use native.Mathlib.Omega.{arith}
 use native.Mathlib.Numerals.{add-one}
-use lib.ListN.{length, getD, drop, set, length-set, length-append, drop-of-length-le}
-use lib.Seq.{drop-cons, drop-length, drop-set-lt, getD-set-same}
+use lib.ListN.{length, getD, take, drop, set, length-set, length-append, length-take, length-drop, drop-of-length-le}
+use lib.Seq.{getD-take, getD-drop, drop-cons, drop-length, drop-set-lt, getD-set-same}
 use Rattle.field.specs.Numbers.{mostBytes, AreBytes, bytesOf, numberFrom, numberIn}
 
 pub bytes-length : (w n : ℕ) → length (bytesOf w n) ≡ w
@@ -60,6 +60,17 @@ number-from-below w n (b ∷ bytes) k h =
 
 pub number-below : (bytes : List ℕ) → AreBytes bytes → numberIn bytes < 256 ^ length bytes
 number-below bytes h = let size : 0 + length bytes ≡ length bytes = omega arith in rw size at (number-from-below 0 0 bytes (omega arith) h)
+
+-- some of the bytes are bytes
+pub bytes-take : (n : ℕ) (bytes : List ℕ) → AreBytes bytes → AreBytes (take n bytes)
+bytes-take n bytes h i less =
+    let few = length-take n bytes in
+    rw (getD-take n bytes i 0 (omega arith)) (h i (omega arith))
+
+pub bytes-drop : (n : ℕ) (bytes : List ℕ) → AreBytes bytes → AreBytes (drop n bytes)
+bytes-drop n bytes h i less =
+    let rest = length-drop n bytes in
+    rw (getD-drop n bytes i 0) (h (n + i) (omega arith))
 
 -- reading: one byte more, and the end
 pub number-next : (bytes : List ℕ) (i n : ℕ) → i < length bytes → numberFrom n (drop i bytes) ≡ numberFrom (n * 256 + getD bytes i 0) (drop (i + 1) bytes)
