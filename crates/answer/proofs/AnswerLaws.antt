@@ -1,18 +1,26 @@
 -- What an answer says, by its verdict, and how many bytes its file has.
-use Prim.Native.Nat.{ℕ, _+_, _*_}
+use Prim.Native.Nat.{ℕ, _+_, _*_, _≤_}
 use mathlib.Core.Path.{_≡_, refl, sym, ap, _∙_}
-use mathlib.Core.List.{List, []}
+use mathlib.Core.List.{List, [], _∷_}
 use mathlib.Core.Option.{none, some}
 use native.Mathlib.Omega.{arith}
 use lib.ListN.{length, length-append}
+use Rattle.outcome.specs.declared.verdicts.Verdict.{Verdict}
+use Rattle.outcome.specs.declared.verdicts.Verdict.the-variants.{Possible, Impossible}
+use Rattle.outcome.specs.Verdicts.{verdictNumber}
+use Rattle.question.specs.Limits.{maxTerms}
 use Rattle.theory.specs.Solutions.{Solution}
-use Rattle.answer.specs.declared.answers.Verdict.{Verdict}
-use Rattle.answer.specs.declared.answers.Verdict.the-variants.{Possible, Impossible}
+use Rattle.field.specs.declared.tags.File.the-variants.{Answer as AnswerFile}
+use Rattle.field.specs.Heads.{endBytes}
+use Rattle.field.specs.Writes.{fieldLength}
+use Rattle.field.proofs.WriteLaws.{length-written}
 use Rattle.answer.specs.declared.answers.Answer.{Answer}
 use Rattle.answer.specs.Answers.{cutTo, saidBy, said, verdictOf}
+use Rattle.answer.specs.Bodies.{maskBytes, masksBody}
 use Rattle.answer.specs.Checks.{classesIn}
-use Rattle.answer.specs.Bytes.{masksBytes, solutionBytes, modelBytes, fileOf}
+use Rattle.answer.specs.Bytes.{verdictBytes, numbersBytes, masksBytes, solutionBytes, modelBytes, fileOf}
 use Rattle.answer.proofs.BodyLaws.{body-length}
+use Rattle.answer.proofs.SizeLaws.{verdict-sized, numbers-sized, masks-sized, end-sized}
 
 module _ (T : ℕ) (a : Answer) where
   pub said-none : a .verdict ≡ Impossible → said T a ≡ none
@@ -33,17 +41,29 @@ module _ (T : ℕ) (a : Answer) where
       go Possible = refl
       go Impossible = refl
 
-pub masks-length : (ms : List ℕ) → length (masksBytes ms) ≡ 3 + 2 * length ms
-masks-length ms = omega (arith, body-length ms)
+-- each field has as many bytes as the table says,
+pub verdict-length : (v : Verdict) → fieldLength AnswerFile 0x40 0 ≡ length (verdictBytes v)
+verdict-length v = length-written AnswerFile 0x40 0 (verdictNumber v ∷ []) verdict-sized (omega arith)
 
--- the file of an impossible answer has seven bytes
+pub numbers-length : (l : List ℕ) → length l ≤ maxTerms → fieldLength AnswerFile 0x41 (length l) ≡ length (numbersBytes l)
+numbers-length l few = length-written AnswerFile 0x41 (length l) l (numbers-sized (length l)) (omega arith)
+
+pub masks-length : (ms : List ℕ) → length ms ≤ maxTerms → fieldLength AnswerFile 0x42 (length ms * maskBytes) ≡ length (masksBytes ms)
+masks-length ms few =
+    let size = body-length maskBytes ms in
+    length-written AnswerFile 0x42 (length ms * maskBytes) (masksBody maskBytes ms) (rw size (masks-sized (length ms * maskBytes))) (omega (arith, size))
+
+pub end-length : fieldLength AnswerFile 0x7f 0 ≡ length endBytes
+end-length = length-written AnswerFile 0x7f 0 [] end-sized (omega arith)
+
+-- and so a file
 pub none-length : length (fileOf none) ≡ 7
 unfolding fileOf modelBytes
 none-length = refl
 
-pub some-length : (sol : Solution) → length (fileOf (some sol)) ≡ 13 + length (sol .arrangement) + 2 * length (sol .masks)
+pub some-length : (sol : Solution) → length (fileOf (some sol)) ≡ 13 + length (sol .arrangement) + length (sol .masks) * maskBytes
 unfolding fileOf modelBytes
-some-length sol = simp length-append (omega (arith, masks-length (sol .masks)))
+some-length sol = simp length-append (omega (arith, body-length maskBytes (sol .masks)))
 
 pub model-none : modelBytes none ≡ []
 unfolding modelBytes

@@ -1,103 +1,74 @@
--- The body of field 42: one mask more as it is written, each mask as it is read, and that reading and writing undo each other.
-use Prim.Native.Nat.{ℕ, zero, suc, _+_, _*_, _/_, _%_, _≤_, _<_}
+-- The body of field 42, over the number of bytes of a mask: one mask more as it is written, each mask as it is read, and that reading and writing undo each other.
+use Prim.Native.Nat.{ℕ, zero, suc, _+_, _*_, _^_, _≤_, _<_}
 use mathlib.Core.Path.{_≡_, refl, sym, ap, ap₂, _∙_}
-use mathlib.Core.List.{List, [], _∷_, _++_, append-assoc}
+use mathlib.Core.List.{List, [], _∷_, _++_, append-nil, append-assoc}
 use native.Mathlib.Omega.{arith}
+use native.Mathlib.Nat.{suc-mul, zero-mul, add-comm}
 use native.Mathlib.Numerals.{add-one}
-use lib.ListN.{length, getD, take, drop, set, length-set, length-drop}
-use lib.Seq.{length-take-le, take-suc, take-suc-set, getD-take, getD-drop}
+use lib.ListN.{length, getD, take, drop, length-append, length-drop}
+use lib.Seq.{length-take-le, take-suc, take-at, drop-at, take-add, drop-drop}
+use Rattle.field.specs.Numbers.{AreBytes, bytesOf, numberIn}
+use Rattle.field.proofs.NumberLaws.{bytes-length, number-back, bytes-back, bytes-take, bytes-drop}
 use Rattle.answer.specs.Bodies.{masksBody, masksIn}
-use Rattle.answer.specs.Bytes.{AreBytes}
 
-pub body-length : (ms : List ℕ) → length (masksBody ms) ≡ 2 * length ms
-unfolding masksBody
-body-length [] = refl
-body-length (m ∷ ms) = omega (arith, body-length ms)
+module _ (w : ℕ) where
+  pub body-none : [] ≡ masksBody w []
+  unfolding masksBody
+  body-none = refl
 
-pub body-snoc : (ms : List ℕ) (m : ℕ) → masksBody (ms ++ (m ∷ [])) ≡ masksBody ms ++ (m / 256 % 256 ∷ m % 256 ∷ [])
-unfolding masksBody
-body-snoc [] m = refl
-body-snoc (n ∷ ms) m = ap (λ l. n / 256 % 256 ∷ n % 256 ∷ l) (body-snoc ms m)
+  pub body-length : (ms : List ℕ) → length (masksBody w ms) ≡ length ms * w
+  unfolding masksBody
+  body-length [] = sym (zero-mul w)
+  body-length (m ∷ ms) =
+      let all = length-append (bytesOf w m) (masksBody w ms) in
+      let more = suc-mul (length ms) w in
+      omega (arith, all, more, bytes-length w m, body-length ms)
 
--- two stores behind the first n
-two-more : (l : List ℕ) (n a b : ℕ) → suc n < length l → take (suc (suc n)) (set (set l n a) (suc n) b) ≡ take n l ++ (a ∷ b ∷ [])
-two-more l n a b h =
-    take-suc-set (set l n a) (suc n) b (simp length-set h)
-    ∙ ap (λ x. x ++ (b ∷ [])) (take-suc-set l n a (omega arith))
-    ∙ append-assoc (take n l) (a ∷ []) (b ∷ [])
+  pub body-snoc : (ms : List ℕ) (m : ℕ) → masksBody w (ms ++ (m ∷ [])) ≡ masksBody w ms ++ bytesOf w m
+  unfolding masksBody
+  body-snoc [] m = append-nil (bytesOf w m)
+  body-snoc (n ∷ ms) m = ap (λ l. bytesOf w n ++ l) (body-snoc ms m) ∙ sym (append-assoc (bytesOf w n) (masksBody w ms) (bytesOf w m))
 
--- one mask more of a body that is stored byte by byte
-pub body-more : (masks body : List ℕ) (k : ℕ) → k < length masks → 2 * k + 1 < length body → take (2 * k) body ≡ masksBody (take k masks) →
-    take (2 * (k + 1)) (set (set body (2 * k) (getD masks k 0 / 256 % 256)) (2 * k + 1) (getD masks k 0 % 256)) ≡ masksBody (take (k + 1) masks)
-body-more masks body k h room e =
-    let n : 2 * (k + 1) ≡ suc (suc (2 * k)) = omega arith in
-    let o : 2 * k + 1 ≡ suc (2 * k) = add-one (2 * k) in
-    rw (n, o, add-one k, take-suc masks k 0 h, body-snoc (take k masks) (getD masks k 0))
-    (two-more body (2 * k) _ _ (omega arith) ∙ ap (λ l. l ++ (getD masks k 0 / 256 % 256 ∷ getD masks k 0 % 256 ∷ [])) e)
+  -- one mask more of a body that is stored mask by mask: its bytes follow those so far
+  pub body-more : (masks so-far rest : List ℕ) (k : ℕ) → k < length masks → so-far ≡ masksBody w (take k masks) → take ((k + 1) * w) (so-far ++ (bytesOf w (getD masks k 0) ++ rest)) ≡ masksBody w (take (k + 1) masks)
+  body-more masks so-far rest k h e =
+      let next : masksBody w (take (k + 1) masks) ≡ masksBody w (take k masks) ++ bytesOf w (getD masks k 0) = rw (add-one k, take-suc masks k 0 h) (body-snoc (take k masks) (getD masks k 0)) in
+      let size : length (masksBody w (take k masks) ++ bytesOf w (getD masks k 0)) ≡ (k + 1) * w =
+      rw (add-one k) (omega (arith, length-append (masksBody w (take k masks)) (bytesOf w (getD masks k 0)), body-length (take k masks), bytes-length w (getD masks k 0), suc-mul k w, ap (λ i. i * w) (length-take-le k masks (omega arith)))) in
+      rw (next, e)
+      (ap (take ((k + 1) * w)) (sym (append-assoc (masksBody w (take k masks)) (bytesOf w (getD masks k 0)) rest)) ∙ take-at (masksBody w (take k masks) ++ bytesOf w (getD masks k 0)) rest ((k + 1) * w) size)
 
-pub body-none : [] ≡ masksBody []
-unfolding masksBody
-body-none = refl
+  -- as many masks as are asked for
+  pub in-length : (n : ℕ) (bytes : List ℕ) → length (masksIn w n bytes) ≡ n
+  unfolding masksIn
+  in-length zero bytes = refl
+  in-length (suc n) bytes = ap suc (in-length n (drop w bytes))
 
-pub body-all : (masks body : List ℕ) (k n : ℕ) → k ≡ n → take (2 * k) body ≡ masksBody (take k masks) → take (2 * n) body ≡ masksBody (take n masks)
-body-all masks body k n e h = rw e at h
+  -- the mask k
+  pub in-at : (n k : ℕ) (bytes : List ℕ) → k < n → getD (masksIn w n bytes) k 0 ≡ numberIn (take w (drop (k * w) bytes))
+  unfolding masksIn
+  in-at zero k bytes h = absurd (omega arith)
+  in-at (suc n) zero bytes h = rw (zero-mul w)
+  in-at (suc n) (suc k) bytes h =
+      in-at n k (drop w bytes) (omega arith) ∙ ap (λ l. numberIn (take w l)) (drop-drop (k * w) w bytes ∙ ap (λ i. drop i bytes) (sym (suc-mul k w ∙ add-comm (k * w) w)))
 
--- as many masks as pairs of bytes
-pub in-length : (n : ℕ) (body : List ℕ) → length body ≡ 2 * n → length (masksIn body) ≡ n
-unfolding masksIn
-in-length zero [] e = refl
-in-length (suc n) [] e = absurd (omega arith)
-in-length n (a ∷ []) e = absurd (omega arith)
-in-length zero (a ∷ b ∷ body) e = absurd (omega arith)
-in-length (suc n) (a ∷ b ∷ body) e = ap suc (in-length n body (omega arith))
+  -- masks for which w bytes are enough, written and read back
+  pub in-body : (ms rest : List ℕ) → ((k : ℕ) → k < length ms → getD ms k 0 < 256 ^ w) → masksIn w (length ms) (masksBody w ms ++ rest) ≡ ms
+  unfolding masksBody masksIn
+  in-body [] rest h = refl
+  in-body (m ∷ ms) rest h =
+      let split : (bytesOf w m ++ masksBody w ms) ++ rest ≡ bytesOf w m ++ (masksBody w ms ++ rest) = append-assoc (bytesOf w m) (masksBody w ms) rest in
+      let first : take w (bytesOf w m ++ (masksBody w ms ++ rest)) ≡ bytesOf w m = take-at (bytesOf w m) (masksBody w ms ++ rest) w (bytes-length w m) in
+      let others : drop w (bytesOf w m ++ (masksBody w ms ++ rest)) ≡ masksBody w ms ++ rest = drop-at (bytesOf w m) (masksBody w ms ++ rest) w (bytes-length w m) in
+      rw (split, first, others) (ap₂ (λ x l. x ∷ l) (number-back w m (h 0 (omega arith))) (in-body ms rest (λ k less. h (suc k) (omega arith))))
 
--- the mask k
-in-at : (body : List ℕ) (k : ℕ) → 2 * k + 1 < length body → getD (masksIn body) k 0 ≡ getD body (2 * k) 0 * 256 + getD body (2 * k + 1) 0
-unfolding masksIn
-in-at [] k h = absurd (omega arith)
-in-at (a ∷ []) k h = absurd (omega arith)
-in-at (a ∷ b ∷ body) zero h = refl
-in-at (a ∷ b ∷ body) (suc k) h =
-    let n : 2 * suc k ≡ suc (suc (2 * k)) = omega arith in
-    let o : 2 * suc k + 1 ≡ suc (suc (2 * k + 1)) = omega arith in
-    in-at body k (omega arith) ∙ ap₂ (λ i j. getD (a ∷ b ∷ body) i 0 * 256 + getD (a ∷ b ∷ body) j 0) (sym n) (sym o)
-
--- the masks of n classes from a place on
-module _ (bytes : List ℕ) (at n : ℕ) (h : at + 2 * n ≤ length bytes) where
-  abbrev body : List ℕ
-  body = take (2 * n) (drop at bytes)
-
-  long : length body ≡ 2 * n
-  long = length-take-le (2 * n) (drop at bytes) (simp length-drop (omega arith))
-
-  pub masks-length : length (masksIn body) ≡ n
-  masks-length = in-length n body long
-
-  pub mask-at : (k v high low : ℕ) → k < n → v ≡ high * 256 + low → high ≡ getD bytes (at + 2 * k) 0 → low ≡ getD bytes (at + 2 * k + 1) 0 → v ≡ getD (masksIn body) k 0
-  mask-at k v high low less e a b =
-      let o : at + 2 * k + 1 ≡ at + (2 * k + 1) = omega arith in
-      let first : high ≡ getD body (2 * k) 0 = a ∙ sym (getD-take (2 * n) (drop at bytes) (2 * k) 0 (omega arith) ∙ getD-drop at bytes (2 * k) 0) in
-      let second : low ≡ getD body (2 * k + 1) 0 = b ∙ ap (λ i. getD bytes i 0) o ∙ sym (getD-take (2 * n) (drop at bytes) (2 * k + 1) 0 (omega arith) ∙ getD-drop at bytes (2 * k + 1) 0) in
-      e ∙ ap₂ (λ x y. x * 256 + y) first second ∙ sym (in-at body k (omega (arith, long)))
-
--- masks below 2 to the 16 that are written are read back
-pub in-body : (ms : List ℕ) → ((k : ℕ) → k < length ms → getD ms k 0 < 65536) → masksIn (masksBody ms) ≡ ms
-unfolding masksBody masksIn
-in-body [] h = refl
-in-body (m ∷ ms) h =
-    let small = h 0 (omega arith) in
-    let first : m / 256 % 256 * 256 + m % 256 ≡ m = omega arith in
-    ap₂ (λ x l. x ∷ l) first (in-body ms (λ k less. h (suc k) (omega arith)))
-
--- bytes that are read are written again
-pub body-in : (n : ℕ) (body : List ℕ) → length body ≡ 2 * n → AreBytes body → masksBody (masksIn body) ≡ body
-unfolding masksBody masksIn
-body-in n [] e h = refl
-body-in n (a ∷ []) e h = absurd (omega arith)
-body-in zero (a ∷ b ∷ body) e h = absurd (omega arith)
-body-in (suc n) (a ∷ b ∷ body) e h =
-    let x : a < 256 = h 0 (omega arith) in
-    let y : b < 256 = h 1 (omega arith) in
-    let high : (a * 256 + b) / 256 % 256 ≡ a = omega arith in
-    let low : (a * 256 + b) % 256 ≡ b = omega arith in
-    ap₂ (λ i l. i ∷ l) high (ap₂ (λ j l. j ∷ l) low (body-in n body (omega arith) (λ k less. h (suc (suc k)) (omega arith))))
+  -- bytes that are read are written again
+  pub body-in : (n : ℕ) (bytes : List ℕ) → n * w ≤ length bytes → AreBytes bytes → masksBody w (masksIn w n bytes) ≡ take (n * w) bytes
+  unfolding masksBody masksIn
+  body-in zero bytes h are = rw (zero-mul w)
+  body-in (suc n) bytes h are =
+      let all : suc n * w ≡ w + n * w = suc-mul n w ∙ add-comm (n * w) w in
+      let size : length (take w bytes) ≡ w = length-take-le w bytes (omega arith) in
+      let first : bytesOf w (numberIn (take w bytes)) ≡ take w bytes = ap (λ i. bytesOf i (numberIn (take w bytes))) (sym size) ∙ bytes-back (take w bytes) (bytes-take w bytes are) in
+      rw all
+      (ap₂ (λ x y. x ++ y) first (body-in n (drop w bytes) (omega (arith, length-drop w bytes)) (bytes-drop w bytes are)) ∙ sym (take-add w (n * w) bytes))

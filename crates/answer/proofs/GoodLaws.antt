@@ -12,8 +12,8 @@ use Rattle.theory.specs.Arrangements.{MayFollow, classes}
 use Rattle.theory.specs.Solutions.{Solution}
 use Rattle.theory.proofs.ArrangementLaws.{classes-few as few-classes}
 use Rattle.outcome.proofs.Never.{never}
-use Rattle.answer.specs.declared.answers.Verdict.{Verdict}
-use Rattle.answer.specs.declared.answers.Verdict.the-variants.{Possible, Impossible}
+use Rattle.outcome.specs.declared.verdicts.Verdict.{Verdict}
+use Rattle.outcome.specs.declared.verdicts.Verdict.the-variants.{Possible, Impossible}
 use Rattle.answer.specs.declared.answers.Answer.{Answer}
 use Rattle.answer.specs.declared.checks.ClassCount.the-variants.{Classes, Against}
 use Rattle.answer.specs.declared.checks.AnswerCheck.the-variants.{Good, Bad}

@@ -2,12 +2,12 @@
 -- The answer as a value, its tests and its bodies:
 pub mod PaddedLaws
 pub mod BodyLaws
+pub mod SizeLaws
 pub mod CheckLaws
 pub mod AnswerLaws
 pub mod GoodLaws
 pub mod MayLaws
 -- The reader and the writer:
-pub mod FrameLaws
 pub mod ReadLaws
 pub mod WriterLaws
 -- Both round trips:

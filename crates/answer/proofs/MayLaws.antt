@@ -10,12 +10,13 @@ use lib.Dec.{ltb}
 use lib.ListN.{length, getD, take}
 use lib.Seq.{length-take-le}
 use Rattle.question.specs.Limits.{maxTerms}
+use Rattle.outcome.specs.Padded.{padded}
 use Rattle.theory.specs.Arrangements.{MayFollow, classes}
 use Rattle.theory.specs.Solutions.{Solution, withMasks}
-use Rattle.answer.specs.declared.answers.Verdict.{Verdict}
-use Rattle.answer.specs.declared.answers.Verdict.the-variants.{Possible, Impossible}
+use Rattle.outcome.specs.declared.verdicts.Verdict.{Verdict}
+use Rattle.outcome.specs.declared.verdicts.Verdict.the-variants.{Possible, Impossible}
 use Rattle.answer.specs.declared.answers.Answer.{Answer}
-use Rattle.answer.specs.Answers.{saidBy, said, padded, asAnswer, HasTwelve, IsArranged, MaySay}
+use Rattle.answer.specs.Answers.{saidBy, said, asAnswer, HasTwelve, IsArranged, MaySay}
 use Rattle.answer.specs.Checks.{mayFollow, isArrangement, allBelow, isGood}
 use Rattle.answer.proofs.PaddedLaws.{padded-length, take-padded}
 use Rattle.answer.proofs.GoodLaws.{and-true, follows, classes-few}
@@ -61,12 +62,12 @@ module _ (T bound : ℕ) where
   unfolding said
   as-said none w = refl
   as-said (some sol) w =
-      let l : take T (padded (sol .arrangement)) ≡ sol .arrangement = take-padded (sol .arrangement) T (w .each-term) in
-      ap (λ x. some (withMasks x (take (classes x) (padded (sol .masks))))) l ∙ ap (λ ms. some (withMasks (sol .arrangement) ms)) (take-padded (sol .masks) (classes (sol .arrangement)) (w .each-class))
+      let l : take T (padded maxTerms (sol .arrangement)) ≡ sol .arrangement = take-padded maxTerms (sol .arrangement) T (w .each-term) in
+      ap (λ x. some (withMasks x (take (classes x) (padded maxTerms (sol .masks))))) l ∙ ap (λ ms. some (withMasks (sol .arrangement) ms)) (take-padded maxTerms (sol .masks) (classes (sol .arrangement)) (w .each-class))
 
   pub as-twelve : (s : Option Solution) → T ≤ maxTerms → MaySay T bound s → HasTwelve (asAnswer s)
-  as-twelve none few w = (padded-length [] (omega arith), padded-length [] (omega arith))
-  as-twelve (some sol) few w = (padded-length (sol .arrangement) (omega (arith, w .each-term)), padded-length (sol .masks) (omega (arith, w .each-class, may-few sol w)))
+  as-twelve none few w = (padded-length maxTerms [] (omega arith), padded-length maxTerms [] (omega arith))
+  as-twelve (some sol) few w = (padded-length maxTerms (sol .arrangement) (omega (arith, w .each-term)), padded-length maxTerms (sol .masks) (omega (arith, w .each-class, may-few sol w)))
 
   -- a good answer says what may be said
   pub good-may : (a : Answer) → T ≤ maxTerms → HasTwelve a → isGood bound (said T a) ≡ true → MaySay T bound (said T a)

@@ -1,7 +1,7 @@
 -- Demand 2 for answer files: an answer written and read back says the same, a file read and written again has the same bytes,
 -- and the reader accepts exactly the impossible answer and what the writer could write for some arrangement and masks below 2 to the S.
 -- (What the types say of arrays and of bytes is said here: they have twelve entries, and are below 256.)
-use Prim.Native.Nat.{ℕ, _≤_}
+use Prim.Native.Nat.{ℕ, _^_, _≤_}
 use denote.Ref.{now}
 use mathlib.Core.Path.{_≡_, refl, sym, ap, ap₂, _∙_}
 use mathlib.Core.List.{List}
@@ -27,8 +27,11 @@ use Rattle.answer.specs.declared.answers.Answer.{Answer}
 use Rattle.answer.specs.declared.reads.ReadAnswer.{ReadAnswer}
 use Rattle.outcome.specs.declared.writes.Written.the-variants.{Count}
 use Rattle.answer.specs.Answers.{said, asAnswer, cleaned, HasTwelve, MaySay}
-use Rattle.answer.specs.Bytes.{fileOf, answerBytes, AreBytes}
-use Rattle.answer.specs.Reads.{accepted, checkedThen, fileRead, readAnswer}
+use Rattle.answer.specs.Bytes.{fileOf, answerBytes}
+use Rattle.field.specs.Numbers.{AreBytes}
+use Rattle.answer.specs.Bodies.{maskBytes}
+use Rattle.answer.specs.Reads.{accepted, refusedFile, fileRead, readAnswer}
+use Rattle.outcome.specs.Checks.{acceptedThen}
 use Rattle.answer.specs.Writes.{written, writtenOver}
 use Rattle.answer.proofs.MayLaws.{may-good, as-said, as-twelve, good-may}
 use Rattle.answer.proofs.ReadBackLaws.{file-read-back}
@@ -46,7 +49,7 @@ module _ (q : Question) (e : checked q ≡ Accepted) where
   few-terms : termsOf q ≤ maxTerms
   few-terms = accepted-table q .0 e .few-terms
 
-  small : maskBound q ≤ 65536
+  small : maskBound q ≤ 256 ^ maskBytes
   small = pow-mono {i = q .sets} {j = maxSets} (accepted-table q .0 e .few-sets)
 
   read-checked : (bytes : List ℕ) → readAnswer q bytes ≡ fileRead (termsOf q) (maskBound q) bytes
@@ -75,7 +78,7 @@ module _ (q : Question) (bytes : List ℕ) (are-bytes : AreBytes bytes) (e : rea
   unfolding readAnswer
   question-accepted = go (checked q) e
     where
-      go : (c : Check) → checkedThen c (fileRead (termsOf q) (maskBound q) bytes) .outcome ≡ Accepted → c ≡ Accepted
+      go : (c : Check) → acceptedThen c refusedFile (fileRead (termsOf q) (maskBound q) bytes) .outcome ≡ Accepted → c ≡ Accepted
       go Accepted e = refl
       go (RefusedTable r) e = never cc
 

@@ -1,14 +1,15 @@
 -- What an answer says: that the question is impossible, or a class number for each term and a mask for each class.
-use Prim.Native.Nat.{ℕ, _-_, _<_}
+use Prim.Native.Nat.{ℕ, _<_}
 use mathlib.Core.Path.{_≡_}
-use mathlib.Core.List.{List, [], _++_}
+use mathlib.Core.List.{[]}
 use mathlib.Core.Option.{Option, none, some}
-use lib.ListN.{length, take, replicate}
+use lib.ListN.{length, take}
 use Rattle.question.specs.Limits.{maxTerms}
 use Rattle.theory.specs.Arrangements.{IsArrangement, classes}
 use Rattle.theory.specs.Solutions.{Solution, withMasks, maskOf}
-use Rattle.answer.specs.declared.answers.Verdict.{Verdict}
-use Rattle.answer.specs.declared.answers.Verdict.the-variants.{Possible, Impossible}
+use Rattle.outcome.specs.declared.verdicts.Verdict.{Verdict}
+use Rattle.outcome.specs.declared.verdicts.Verdict.the-variants.{Possible, Impossible}
+use Rattle.outcome.specs.Padded.{padded}
 use Rattle.answer.specs.declared.answers.Answer.{Answer}
 
 -- the class numbers of the first T terms, and the masks of the first n classes
@@ -28,21 +29,17 @@ abbrev pub verdictOf : Option Solution → Verdict
 verdictOf none = Impossible
 verdictOf (some sol) = Possible
 
--- twelve entries: some numbers, and 0 past them
-unfoldable pub padded : List ℕ → List ℕ
-padded l = l ++ replicate (maxTerms - length l) 0
-
 -- the value of what is said; entries past the terms and past the classes are 0
 abbrev pub asAnswer : Option Solution → Answer
-asAnswer none = record { verdict = Impossible; arrangement = padded []; masks = padded [] }
-asAnswer (some sol) = record { verdict = Possible; arrangement = padded (sol .arrangement); masks = padded (sol .masks) }
+asAnswer none = record { verdict = Impossible; arrangement = padded maxTerms []; masks = padded maxTerms [] }
+asAnswer (some sol) = record { verdict = Possible; arrangement = padded maxTerms (sol .arrangement); masks = padded maxTerms (sol .masks) }
 
 abbrev pub impossibleAnswer : Answer
 impossibleAnswer = asAnswer none
 
 -- what stands beside a refusal. It says possible: who forgets to look at the refusal is not told "impossible"
 abbrev pub filler : Answer
-filler = record { verdict = Possible; arrangement = padded []; masks = padded [] }
+filler = record { verdict = Possible; arrangement = padded maxTerms []; masks = padded maxTerms [] }
 
 -- an answer with its ignored entries set to 0
 abbrev pub cleaned : ℕ → Answer → Answer

@@ -1,14 +1,19 @@
--- The body of field 42, as it is written and as it is read: two bytes a class, high byte first.
-use Prim.Native.Nat.{ℕ, _+_, _*_, _/_, _%_}
-use mathlib.Core.List.{List, [], _∷_}
+-- The body of field 42, as it is written and as it is read: masks of some bytes each, high byte first.
+use Prim.Native.Nat.{ℕ, zero, suc}
+use mathlib.Core.List.{List, [], _∷_, _++_}
+use lib.ListN.{take, drop}
+use Rattle.field.specs.Numbers.{bytesOf, numberIn}
 
--- some masks as a body
-unfoldable pub masksBody : List ℕ → List ℕ
-masksBody [] = []
-masksBody (m ∷ ms) = m / 256 % 256 ∷ m % 256 ∷ masksBody ms
+-- a mask has two bytes, one bit for each of 16 sets
+abbrev pub maskBytes : ℕ
+maskBytes = 2
 
--- the masks in a body
-unfoldable pub masksIn : List ℕ → List ℕ
-masksIn [] = []
-masksIn (high ∷ []) = []
-masksIn (high ∷ low ∷ rest) = (high * 256 + low) ∷ masksIn rest
+-- some masks as a body, w bytes each
+unfoldable pub masksBody : ℕ → List ℕ → List ℕ
+masksBody w [] = []
+masksBody w (m ∷ ms) = bytesOf w m ++ masksBody w ms
+
+-- the n masks with which some bytes begin, w bytes each
+unfoldable pub masksIn : ℕ → ℕ → List ℕ → List ℕ
+masksIn w zero bytes = []
+masksIn w (suc n) bytes = numberIn (take w bytes) ∷ masksIn w n (drop w bytes)

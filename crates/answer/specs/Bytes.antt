@@ -1,26 +1,20 @@
 -- An answer as the bytes of a file: 40 with the verdict; if possible, 41 with the class numbers and 42 with the masks; then 7F.
-use Prim.Native.Nat.{ℕ, _<_}
+use Prim.Native.Nat.{ℕ}
 use mathlib.Core.List.{List, [], _∷_, _++_}
 use mathlib.Core.Option.{Option, none, some}
-use lib.ListN.{length, getD}
 use Rattle.question.specs.declared.questions.Question.{Question}
 use Rattle.question.specs.Questions.{termsOf}
 use Rattle.theory.specs.Solutions.{Solution}
-use Rattle.field.specs.Heads.{fieldBytes}
-use Rattle.answer.specs.declared.answers.Verdict.{Verdict}
-use Rattle.answer.specs.declared.answers.Verdict.the-variants.{Possible, Impossible}
+use Rattle.field.specs.Heads.{fieldBytes, endBytes}
+use Rattle.outcome.specs.declared.verdicts.Verdict.{Verdict}
+use Rattle.outcome.specs.Verdicts.{verdictNumber}
 use Rattle.answer.specs.declared.answers.Answer.{Answer}
 use Rattle.answer.specs.Answers.{said, verdictOf}
-use Rattle.answer.specs.Bodies.{masksBody}
-
--- the body of field 40
-abbrev pub verdictByte : Verdict → ℕ
-verdictByte Possible = 1
-verdictByte Impossible = 0
+use Rattle.answer.specs.Bodies.{maskBytes, masksBody}
 
 -- field 40
 abbrev pub verdictBytes : Verdict → List ℕ
-verdictBytes v = fieldBytes 0x40 (verdictByte v ∷ [])
+verdictBytes v = fieldBytes 0x40 (verdictNumber v ∷ [])
 
 -- field 41
 abbrev pub numbersBytes : List ℕ → List ℕ
@@ -28,7 +22,7 @@ numbersBytes l = fieldBytes 0x41 l
 
 -- field 42
 abbrev pub masksBytes : List ℕ → List ℕ
-masksBytes ms = fieldBytes 0x42 (masksBody ms)
+masksBytes ms = fieldBytes 0x42 (masksBody maskBytes ms)
 
 abbrev pub solutionBytes : Solution → List ℕ
 solutionBytes sol = numbersBytes (sol .arrangement) ++ masksBytes (sol .masks)
@@ -38,10 +32,6 @@ unfoldable pub modelBytes : Option Solution → List ℕ
 modelBytes none = []
 modelBytes (some sol) = solutionBytes sol
 
--- field 7F
-abbrev pub endBytes : List ℕ
-endBytes = fieldBytes 0x7f []
-
 -- a whole file
 unfoldable pub fileOf : Option Solution → List ℕ
 fileOf s = verdictBytes (verdictOf s) ++ (modelBytes s ++ endBytes)
@@ -49,7 +39,3 @@ fileOf s = verdictBytes (verdictOf s) ++ (modelBytes s ++ endBytes)
 -- the file of an answer, beside its question
 abbrev pub answerBytes : Question → Answer → List ℕ
 answerBytes q a = fileOf (said (termsOf q) a)
-
--- each is a byte
-abbrev pub AreBytes : List ℕ → Type 0
-AreBytes bytes = (i : ℕ) → i < length bytes → getD bytes i 0 < 256

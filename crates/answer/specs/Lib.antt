@@ -3,6 +3,5 @@ pub mod Answers
 pub mod Checks
 pub mod Bodies
 pub mod Bytes
-pub mod Frames
 pub mod Reads
 pub mod Writes

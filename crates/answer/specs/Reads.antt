@@ -13,15 +13,21 @@ use Rattle.question.specs.Questions.{termsOf}
 use Rattle.question.specs.Checks.{checked}
 use Rattle.theory.specs.Arrangements.{classes}
 use Rattle.theory.specs.Answers.{maskBound}
-use Rattle.answer.specs.declared.answers.Verdict.the-variants.{Possible}
+use Rattle.outcome.specs.declared.verdicts.Verdict.the-variants.{Possible, Impossible}
+use Rattle.outcome.specs.Verdicts.{verdictNumber}
+use Rattle.outcome.specs.Padded.{padded}
+use Rattle.question.specs.Limits.{maxTerms}
 use Rattle.answer.specs.declared.answers.Answer.{Answer}
-use Rattle.answer.specs.declared.frames.Frame.{Frame}
-use Rattle.answer.specs.declared.frames.Frame.the-variants.{Sound, Refused as BadFrame}
+use Rattle.field.specs.declared.tags.File.the-variants.{Answer as AnswerFile}
+use Rattle.field.specs.declared.frames.Due.the-variants.{Only}
+use Rattle.field.specs.declared.frames.Frame.{Frame}
+use Rattle.field.specs.declared.frames.Frame.the-variants.{Sound, Refused as BadFrame}
+use Rattle.field.specs.Heads.{headLength}
+use Rattle.field.specs.Frames.{frameOf}
 use Rattle.answer.specs.declared.reads.ReadAnswer.{ReadAnswer}
-use Rattle.answer.specs.Answers.{padded, impossibleAnswer, filler}
-use Rattle.answer.specs.Bodies.{masksIn}
+use Rattle.answer.specs.Answers.{impossibleAnswer, filler}
+use Rattle.answer.specs.Bodies.{maskBytes, masksIn}
 use Rattle.answer.specs.Checks.{isArrangement, allBelow}
-use Rattle.answer.specs.Frames.{frameOf}
 
 -- a refusal, with the filler beside it
 abbrev pub refusedFile : Refusal → ReadAnswer
@@ -34,10 +40,14 @@ refusedAt number place = refusedFile (refusal number place)
 abbrev pub accepted : Answer → ReadAnswer
 accepted a = record { outcome = Accepted; answer = a }
 
--- what follows where the frame at a place is sound, else its refusal
-abbrev pub framedThen : ℕ → Frame → ReadAnswer → ReadAnswer
-framedThen at Sound next = next
-framedThen at (BadFrame number) next = refusedAt number at
+-- the frame of the field with this tag, which alone is due where `rest` begins
+abbrev pub dueFrame : ℕ → ℕ → List ℕ → Frame
+dueFrame tag size rest = frameOf AnswerFile (Only tag) size rest
+
+-- what follows where the frame at a place is sound, by the places where its body and the next field begin; else its refusal
+abbrev pub framedThen : ℕ → Frame → (ℕ → ℕ → ReadAnswer) → ReadAnswer
+framedThen at (Sound tag n) then = then (at + headLength) (at + headLength + n)
+framedThen at (BadFrame number) then = refusedAt number at
 
 -- what follows where the values of the field at a place are good, else 11
 abbrev pub goodThen : ℕ → Bool → ReadAnswer → ReadAnswer
@@ -46,35 +56,35 @@ goodThen at good next = cond good next (refusedAt badModel at)
 -- 7F at a place, and 9 at the first byte behind it
 unfoldable pub endRead : List ℕ → ℕ → Answer → ReadAnswer
 endRead bytes at a =
-    framedThen at (frameOf 0x7f 0 (drop at bytes))
-    (cond (ltb (at + 3) (length bytes)) (refusedAt bytesAfterEnd (at + 3)) (accepted a))
+    framedThen at (dueFrame 0x7f 0 (drop at bytes)) (λ body end.
+    cond (ltb end (length bytes)) (refusedAt bytesAfterEnd end) (accepted a))
 
--- 42 at a place, behind the class numbers: two bytes for each of n classes
+-- 42 at a place, behind the class numbers: a mask for each of n classes
 unfoldable pub masksRead : ℕ → List ℕ → ℕ → List ℕ → ℕ → ReadAnswer
 masksRead bound bytes at numbers n =
-    let masks = masksIn (take (2 * n) (drop (at + 3) bytes)) in
-    framedThen at (frameOf 0x42 (2 * n) (drop at bytes))
-    (goodThen at (allBelow bound masks)
-    (endRead bytes (at + 3 + 2 * n) (record { verdict = Possible; arrangement = numbers; masks = padded masks })))
+    framedThen at (dueFrame 0x42 (n * maskBytes) (drop at bytes)) (λ body next.
+    let masks = masksIn maskBytes n (drop body bytes) in
+    goodThen at (allBelow bound masks)
+    (endRead bytes next (record { verdict = Possible; arrangement = numbers; masks = padded maxTerms masks })))
 
--- 41 at place 4, behind the verdict: T class numbers
-unfoldable pub numbersRead : ℕ → ℕ → List ℕ → ReadAnswer
-numbersRead T bound bytes =
-    let l = take T (drop 7 bytes) in
-    framedThen 4 (frameOf 0x41 T (drop 4 bytes))
-    (goodThen 4 (isArrangement l)
-    (masksRead bound bytes (7 + T) (padded l) (classes l)))
+-- 41 at a place, behind the verdict: T class numbers
+unfoldable pub numbersRead : ℕ → ℕ → List ℕ → ℕ → ReadAnswer
+numbersRead T bound bytes at =
+    framedThen at (dueFrame 0x41 T (drop at bytes)) (λ body next.
+    let l = take T (drop body bytes) in
+    goodThen at (isArrangement l)
+    (masksRead bound bytes next (padded maxTerms l) (classes l)))
 
--- a verdict byte: 00 impossible, 01 possible, any other gets 11
-unfoldable pub verdictRead : ℕ → ℕ → List ℕ → ℕ → ReadAnswer
-verdictRead T bound bytes verdict =
-    cond (eqb verdict 0) (endRead bytes 4 impossibleAnswer)
-    (cond (eqb verdict 1) (numbersRead T bound bytes)
+-- a verdict byte, before the field at a place: 00 impossible, 01 possible, any other gets 11
+unfoldable pub verdictRead : ℕ → ℕ → List ℕ → ℕ → ℕ → ReadAnswer
+verdictRead T bound bytes verdict next =
+    cond (eqb verdict (verdictNumber Impossible)) (endRead bytes next impossibleAnswer)
+    (cond (eqb verdict (verdictNumber Possible)) (numbersRead T bound bytes next)
     (refusedAt badModel 0))
 
 -- 40 at place 0
 unfoldable pub fileRead : ℕ → ℕ → List ℕ → ReadAnswer
-fileRead T bound bytes = framedThen 0 (frameOf 0x40 0 bytes) (verdictRead T bound bytes (getD bytes 3 0))
+fileRead T bound bytes = framedThen 0 (dueFrame 0x40 0 bytes) (λ body next. verdictRead T bound bytes (getD bytes body 0) next)
 
 -- the answer of a file, beside its question: before it the refusals of the table
 unfoldable pub readAnswer : Question → List ℕ → ReadAnswer

@@ -1,17 +1,14 @@
 // The answer to a question: a verdict, the class number of each term, and the mask of each class.
 // Class numbers past the terms and masks past the classes are ignored; of an impossible answer only the verdict is looked at.
+use outcome::Verdict;
+use question::Question;
 ghost use mathlib.Core.Path.{_≡_};
 ghost use Rattle.answer.specs.Answers.{impossibleAnswer};
 
-pub enum Verdict {
-    Possible,
-    Impossible,
-}
-
 pub struct Answer {
     pub verdict: Verdict,
-    pub arrangement: [u8; 12],
-    pub masks: [u32; 12],
+    pub arrangement: [u8; Question::MAX_TERMS],
+    pub masks: [u32; Question::MAX_TERMS],
 }
 
 impl Answer {
@@ -21,8 +18,8 @@ impl Answer {
     {
         Answer {
             verdict: Verdict::Impossible,
-            arrangement: [0; 12],
-            masks: [0; 12],
+            arrangement: [0; Question::MAX_TERMS],
+            masks: [0; Question::MAX_TERMS],
         }
     }
 }

@@ -1,6 +1,7 @@
 // The test of an answer: class numbers by the rule, and no mask with a bit at or above the number of sets.
 use crate::answers::Answer;
-use crate::answers::Verdict;
+use outcome::Verdict;
+use question::Question;
 ghost use mathlib.Core.Path.{_≡_};
 ghost use Prim.Native.Nat.{suc, max, _^_, _≤_};
 ghost use lib.ListN.{take};
@@ -42,7 +43,7 @@ fn after_class(used: usize, c: usize) -> usize
 }
 
 // The classes of the first class numbers: each is at most one more than the largest before it.
-pub(crate) fn count_classes(numbers: [u8; 12], terms: usize) -> ClassCount
+pub(crate) fn count_classes(numbers: [u8; Question::MAX_TERMS], terms: usize) -> ClassCount
     requires { ⌜ terms ≤ maxTerms ⌝ }
     ensures { λ r. ⌜ r ≡ classCount (take terms numbers) ⌝ }
 {
@@ -60,7 +61,7 @@ pub(crate) fn count_classes(numbers: [u8; 12], terms: usize) -> ClassCount
 }
 
 // Are the masks of the first classes below the bound.
-pub(crate) fn all_below(masks: [u32; 12], classes: usize, bound: u64) -> bool
+pub(crate) fn all_below(masks: [u32; Question::MAX_TERMS], classes: usize, bound: u64) -> bool
     requires { ⌜ classes ≤ maxTerms ⌝ }
     ensures { λ r. ⌜ r ≡ allBelow bound (take classes masks) ⌝ }
 {

@@ -2,12 +2,10 @@
 mod answers;
 mod bodies;
 mod checks;
-mod frames;
 mod reads;
 mod writes;
 
 pub use answers::Answer;
-pub use answers::Verdict;
 pub use reads::ReadAnswer;
 pub use reads::read_answer;
 pub use writes::write_answer;

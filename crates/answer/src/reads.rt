@@ -1,17 +1,20 @@
 // The reader of answer files: bytes beside a question to an answer, or a refusal with its number and place. It does not judge the answer.
 use crate::answers::Answer;
-use crate::answers::Verdict;
+use crate::bodies::MASK_BYTES;
 use crate::bodies::masks_at;
 use crate::bodies::numbers_at;
 use crate::checks::ClassCount;
 use crate::checks::all_below;
 use crate::checks::count_classes;
 use crate::checks::mask_bound;
-use crate::frames::Frame;
-use crate::frames::frame_at;
+use field::Due;
+use field::File;
+use field::Frame;
 use field::byte_at;
+use field::frame_at;
 use outcome::Check;
 use outcome::Refusal;
+use outcome::Verdict;
 use question::Question;
 use question::check;
 use question::terms;
@@ -31,8 +34,8 @@ fn refuse_file(refusal: Refusal) -> ReadAnswer
 {
     let filler = Answer {
         verdict: Verdict::Possible,
-        arrangement: [0; 12],
-        masks: [0; 12],
+        arrangement: [0; Question::MAX_TERMS],
+        masks: [0; Question::MAX_TERMS],
     };
     ReadAnswer {
         outcome: Check::Refused(refusal),
@@ -51,10 +54,10 @@ fn refuse(number: u8, place: usize) -> ReadAnswer
 fn read_end(bytes: &[u8], at: usize, a: Answer) -> ReadAnswer
     ensures { λ r. ⌜ r ≡ endRead (now (bytes .entry)) at a ⌝ }
 {
-    match frame_at(bytes, at, 0x7f, 0) {
+    match frame_at(bytes, at, File::Answer, Due::Only(0x7f), 0) {
         Frame::Refused(number) => refuse(number, at),
-        Frame::Sound => {
-            let end = at + 3;
+        Frame::Sound(_, n) => {
+            let end = at + Frame::HEAD + n;
             if end < bytes.len() {
                 return refuse(Refusal::BYTES_AFTER_END, end);
             }
@@ -67,14 +70,27 @@ fn read_end(bytes: &[u8], at: usize, a: Answer) -> ReadAnswer
 }
 
 // Field 42 at a place, behind the class numbers: 11 for a mask with a bit at or above the number of sets.
-fn read_masks(bytes: &[u8], at: usize, numbers: [u8; 12], classes: usize, bound: u64) -> ReadAnswer
+fn read_masks(
+    bytes: &[u8],
+    at: usize,
+    numbers: [u8; Question::MAX_TERMS],
+    classes: usize,
+    bound: u64,
+) -> ReadAnswer
     requires { ⌜ classes ≤ maxTerms ⌝ }
     ensures { λ r. ⌜ r ≡ masksRead bound (now (bytes .entry)) at numbers classes ⌝ }
 {
-    match frame_at(bytes, at, 0x42, 2 * classes) {
+    match frame_at(
+        bytes,
+        at,
+        File::Answer,
+        Due::Only(0x42),
+        classes * MASK_BYTES,
+    ) {
         Frame::Refused(number) => refuse(number, at),
-        Frame::Sound => {
-            let masks = masks_at(bytes, at + 3, classes);
+        Frame::Sound(_, n) => {
+            let body = at + Frame::HEAD;
+            let masks = masks_at(bytes, body, classes);
             if !all_below(masks, classes, bound) {
                 return refuse(Refusal::BAD_MODEL, at);
             }
@@ -83,41 +99,42 @@ fn read_masks(bytes: &[u8], at: usize, numbers: [u8; 12], classes: usize, bound:
                 arrangement: numbers,
                 masks: masks,
             };
-            read_end(bytes, at + 3 + 2 * classes, answer)
+            read_end(bytes, body + n, answer)
         }
     }
 }
 
-// Field 41 behind the verdict: 11 for a class number against the rule.
-fn read_numbers(bytes: &[u8], terms: usize, bound: u64) -> ReadAnswer
+// Field 41 at a place, behind the verdict: 11 for a class number against the rule.
+fn read_numbers(bytes: &[u8], at: usize, terms: usize, bound: u64) -> ReadAnswer
     requires { ⌜ terms ≤ maxTerms ⌝ }
-    ensures { λ r. ⌜ r ≡ numbersRead terms bound (now (bytes .entry)) ⌝ }
+    ensures { λ r. ⌜ r ≡ numbersRead terms bound (now (bytes .entry)) at ⌝ }
 {
-    match frame_at(bytes, 4, 0x41, terms) {
-        Frame::Refused(number) => refuse(number, 4),
-        Frame::Sound => {
-            let numbers = numbers_at(bytes, 7, terms);
+    match frame_at(bytes, at, File::Answer, Due::Only(0x41), terms) {
+        Frame::Refused(number) => refuse(number, at),
+        Frame::Sound(_, n) => {
+            let body = at + Frame::HEAD;
+            let numbers = numbers_at(bytes, body, terms);
             match count_classes(numbers, terms) {
-                ClassCount::Against => refuse(Refusal::BAD_MODEL, 4),
+                ClassCount::Against => refuse(Refusal::BAD_MODEL, at),
                 ClassCount::Classes(classes) => {
-                    read_masks(bytes, 7 + terms, numbers, classes, bound)
+                    read_masks(bytes, body + n, numbers, classes, bound)
                 }
             }
         }
     }
 }
 
-// By the verdict byte: 11 if it is above 1.
-fn read_verdict(bytes: &[u8], verdict: u8, terms: usize, bound: u64) -> ReadAnswer
+// By the verdict byte, before the field at a place: 11 if it is above 1.
+fn read_verdict(bytes: &[u8], verdict: u8, next: usize, terms: usize, bound: u64) -> ReadAnswer
     requires { ⌜ terms ≤ maxTerms ⌝ }
-    ensures { λ r. ⌜ r ≡ verdictRead terms bound (now (bytes .entry)) verdict ⌝ }
+    ensures { λ r. ⌜ r ≡ verdictRead terms bound (now (bytes .entry)) verdict next ⌝ }
 {
     if verdict == 0 {
         let answer = Answer::impossible();
-        return read_end(bytes, 4, answer);
+        return read_end(bytes, next, answer);
     }
     if verdict == 1 {
-        return read_numbers(bytes, terms, bound);
+        return read_numbers(bytes, next, terms, bound);
     }
     refuse(Refusal::BAD_MODEL, 0)
 }
@@ -127,11 +144,12 @@ fn read_file(bytes: &[u8], terms: usize, bound: u64) -> ReadAnswer
     requires { ⌜ terms ≤ maxTerms ⌝ }
     ensures { λ r. ⌜ r ≡ fileRead terms bound (now (bytes .entry)) ⌝ }
 {
-    match frame_at(bytes, 0, 0x40, 0) {
+    match frame_at(bytes, 0, File::Answer, Due::Only(0x40), 0) {
         Frame::Refused(number) => refuse(number, 0),
-        Frame::Sound => {
-            let verdict = byte_at(bytes, 3);
-            read_verdict(bytes, verdict, terms, bound)
+        Frame::Sound(_, n) => {
+            let body = Frame::HEAD;
+            let verdict = byte_at(bytes, body);
+            read_verdict(bytes, verdict, body + n, terms, bound)
         }
     }
 }

@@ -1,12 +1,16 @@
 // The writer of answer files: an answer beside its question into a lent buffer, field by field.
 use crate::answers::Answer;
-use crate::answers::Verdict;
+use crate::bodies::MASK_BYTES;
+use crate::bodies::mask_body;
 use crate::checks::AnswerCheck;
 use crate::checks::check_answer;
 use crate::checks::mask_bound;
+use field::File;
+use field::field_length;
 use field::put_field;
 use outcome::Check;
 use outcome::Refusal;
+use outcome::Verdict;
 use outcome::Written;
 use question::Question;
 use question::check;
@@ -15,33 +19,15 @@ ghost use mathlib.Core.Path.{_≡_};
 ghost use Prim.Native.Nat.{_*_, _≤_};
 ghost use lib.ListN.{length, take};
 ghost use Rattle.question.specs.Limits.{maxTerms};
+ghost use Rattle.outcome.specs.Verdicts.{verdictNumber};
 ghost use Rattle.outcome.specs.Writes.{over, fittedOver, fitted};
 ghost use Rattle.answer.specs.Answers.{cutTo, said};
-ghost use Rattle.answer.specs.Bodies.{masksBody};
-ghost use Rattle.answer.specs.Bytes.{verdictByte, numbersBytes, masksBytes, solutionBytes, modelBytes, fileOf};
+ghost use Rattle.answer.specs.Bytes.{numbersBytes, masksBytes, solutionBytes, modelBytes, fileOf};
 ghost use Rattle.answer.specs.Checks.{classesIn};
 ghost use Rattle.answer.specs.Writes.{goodWritten, goodOver, written, writtenOver};
 
-// The body of field 42: two bytes a class, high byte first.
-fn mask_body(masks: [u32; 12], classes: usize) -> [u8; 24]
-    requires { ⌜ classes ≤ maxTerms ⌝ }
-    ensures { λ r. ⌜ take (2 * classes) r ≡ masksBody (take classes masks) ⌝ }
-{
-    let mut body = [0u8; 24];
-    let mut k: usize = 0;
-    while k < classes {
-        let m = masks[k];
-        let high = (m / 256 % 256) as u8;
-        let low = (m % 256) as u8;
-        body[2 * k] = high;
-        body[2 * k + 1] = low;
-        k += 1;
-    }
-    body
-}
-
 // Field 41 at the front of the lent part.
-fn put_numbers(numbers: [u8; 12], terms: usize, buf: &mut [u8]) -> usize
+fn put_numbers(numbers: [u8; Question::MAX_TERMS], terms: usize, buf: &mut [u8]) -> usize
     requires { ⌜ (terms ≤ maxTerms) × (length (numbersBytes (take terms numbers)) ≤ length (now buf)) ⌝ }
     ensures { λ r. ⌜ (r ≡ length (numbersBytes (take terms numbers))) × (now (buf .exit) ≡ over (numbersBytes (take terms numbers)) (now (buf .entry))) ⌝ }
 {
@@ -49,11 +35,11 @@ fn put_numbers(numbers: [u8; 12], terms: usize, buf: &mut [u8]) -> usize
 }
 
 // Field 42 at the front of the lent part.
-fn put_masks(masks: [u32; 12], classes: usize, buf: &mut [u8]) -> usize
+fn put_masks(masks: [u32; Question::MAX_TERMS], classes: usize, buf: &mut [u8]) -> usize
     requires { ⌜ (classes ≤ maxTerms) × (length (masksBytes (take classes masks)) ≤ length (now buf)) ⌝ }
     ensures { λ r. ⌜ (r ≡ length (masksBytes (take classes masks))) × (now (buf .exit) ≡ over (masksBytes (take classes masks)) (now (buf .entry))) ⌝ }
 {
-    let n = 2 * classes;
+    let n = classes * MASK_BYTES;
     let body = mask_body(masks, classes);
     put_field(0x42, &body[..n], buf)
 }
@@ -84,7 +70,7 @@ fn put_model(a: Answer, terms: usize, classes: usize, buf: &mut [u8]) -> usize
 
 // The body of field 40.
 fn verdict_byte(verdict: Verdict) -> u8
-    ensures { λ r. ⌜ r ≡ verdictByte verdict ⌝ }
+    ensures { λ r. ⌜ r ≡ verdictNumber verdict ⌝ }
 {
     match verdict {
         Verdict::Impossible => 0,
@@ -110,10 +96,15 @@ fn file_length(a: Answer, terms: usize, classes: usize) -> usize
     requires { ⌜ (terms ≤ maxTerms) × (classes ≤ maxTerms) × (classes ≡ classesIn (said terms a)) ⌝ }
     ensures { λ r. ⌜ r ≡ length (fileOf (said terms a)) ⌝ }
 {
+    let ends = field_length(File::Answer, 0x40, 0) + field_length(File::Answer, 0x7f, 0);
     let verdict = a.verdict;
     match verdict {
-        Verdict::Impossible => 7,
-        Verdict::Possible => 13 + terms + 2 * classes,
+        Verdict::Impossible => ends,
+        Verdict::Possible => {
+            let numbers = field_length(File::Answer, 0x41, terms);
+            let masks = field_length(File::Answer, 0x42, classes * MASK_BYTES);
+            ends + numbers + masks
+        }
     }
 }
 

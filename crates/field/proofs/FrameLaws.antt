@@ -1,6 +1,6 @@
 -- A frame is sound exactly if its head is there, its tag is known and in place, and its body has the length of the tag and is there; and so exactly if the field was written so.
 use Prim.Native.Nat.{ℕ, _+_, _-_, _≤_, _<_}
-use mathlib.Core.Path.{_≡_, refl, sym, ap, subst, _∙_}
+use mathlib.Core.Path.{_≡_, refl, ap, ap₂, subst, _∙_}
 use mathlib.Core.Bool.{Bool, true, false, not, cond}
 use mathlib.Core.List.{List, _++_}
 use native.Mathlib.Omega.{arith}
@@ -123,6 +123,9 @@ module _ (file : File) (due size : ℕ) (rest : List ℕ) (tag n : ℕ) (e : fra
 
   pub due-length : (m : ℕ) → Sized file due size m → n ≡ m
   due-length m s = one-length file due size n m (subst (λ t. isAllowed (lengthOf file t) size n ≡ true) due-tag (sound file (Only due) size rest tag n e .allowed)) (s .allowed)
+
+  pub sound-due : (m : ℕ) → Sized file due size m → frameOf file (Only due) size rest ≡ Sound due m
+  sound-due m s = e ∙ ap₂ Sound due-tag (due-length m s)
 
 -- a field that was written has a sound frame where it is due
 pub due-sound : (file : File) (tag size : ℕ) (body rest : List ℕ) → Sized file tag size (length body) → frameOf file (Only tag) size (fieldBytes tag body ++ rest) ≡ Sound tag (length body)

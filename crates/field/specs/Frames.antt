@@ -13,7 +13,7 @@ use Rattle.field.specs.declared.frames.Due.the-variants.{Only, AllBut}
 use Rattle.field.specs.declared.frames.Frame.{Frame}
 use Rattle.field.specs.declared.frames.Frame.the-variants.{Sound, Refused}
 use Rattle.field.specs.Tags.{lengthOf, isKnown, isAllowed}
-use Rattle.field.specs.Heads.{headOf}
+use Rattle.field.specs.Heads.{headLength, headOf}
 
 -- may a tag that the file knows stand at a place
 abbrev pub inPlace : Due → ℕ → Bool
@@ -36,4 +36,4 @@ headFramed file due size left (Whole tag n) = framed file due size tag n left
 
 -- the frame of a field, where `rest` are the bytes from its place on, and a length that depends is `size`
 unfoldable pub frameOf : File → Due → ℕ → List ℕ → Frame
-frameOf file due size rest = headFramed file due size (length rest - 3) (headOf rest)
+frameOf file due size rest = headFramed file due size (length rest - headLength) (headOf rest)

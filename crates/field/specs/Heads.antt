@@ -5,6 +5,10 @@ use lib.ListN.{length}
 use Rattle.field.specs.declared.heads.Head.{Head}
 use Rattle.field.specs.declared.heads.Head.the-variants.{Short, Whole}
 
+-- a tag and a length in two bytes
+abbrev pub headLength : ℕ
+headLength = 3
+
 -- the bytes of a field
 abbrev pub fieldBytes : ℕ → List ℕ → List ℕ
 fieldBytes tag body = tag ∷ length body / 256 ∷ length body % 256 ∷ body

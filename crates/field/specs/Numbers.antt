@@ -7,7 +7,11 @@ use lib.ListN.{length, getD}
 abbrev pub AreBytes : List ℕ → Type 0
 AreBytes bytes = (i : ℕ) → i < length bytes → getD bytes i 0 < 256
 
--- a number in w bytes
+-- a number of the machine has eight bytes
+abbrev pub mostBytes : ℕ
+mostBytes = 8
+
+-- a number in w bytes, which say all of it if it is below 256 to the w
 unfoldable pub bytesOf : ℕ → ℕ → List ℕ
 bytesOf zero n = []
 bytesOf (suc w) n = bytesOf w (n / 256) ++ (n % 256 ∷ [])

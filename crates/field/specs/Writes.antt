@@ -9,7 +9,7 @@ use Rattle.field.specs.declared.tags.File.{File}
 use Rattle.field.specs.declared.tags.BodyLength.{BodyLength}
 use Rattle.field.specs.declared.tags.BodyLength.the-variants.{Unknown, Fixed, Depends}
 use Rattle.field.specs.Tags.{lengthOf}
-use Rattle.field.specs.Heads.{fieldBytes}
+use Rattle.field.specs.Heads.{headLength, fieldBytes}
 
 -- the longest body whose length two bytes can say
 abbrev pub longestBody : ℕ
@@ -17,7 +17,7 @@ longestBody = 65535
 
 -- how many bytes a field with a body of n bytes has; none, where two bytes can't say its length
 abbrev pub withHead : ℕ → ℕ
-withHead n = cond (leb n longestBody) (3 + n) 0
+withHead n = cond (leb n longestBody) (headLength + n) 0
 
 -- how many bytes a field has by the table, where a length that depends is `size`
 abbrev pub sizedLength : BodyLength → ℕ → ℕ
@@ -31,11 +31,11 @@ fieldLength file tag size = sizedLength (lengthOf file tag) size
 
 -- can a field with this body be written where there is room for so many bytes
 abbrev pub fieldFits : List ℕ → ℕ → Bool
-fieldFits body room = leb (length body) longestBody && leb (3 + length body) room
+fieldFits body room = leb (length body) longestBody && leb (headLength + length body) room
 
 -- how many bytes are written: those of the whole field, or none
 unfoldable pub fieldCount : List ℕ → ℕ → ℕ
-fieldCount body room = cond (fieldFits body room) (3 + length body) 0
+fieldCount body room = cond (fieldFits body room) (headLength + length body) 0
 
 -- the part after the call: the whole field over what was there, or what was there
 unfoldable pub fieldOver : ℕ → List ℕ → List ℕ → List ℕ

@@ -21,6 +21,11 @@ pub enum Frame {
     Refused(u8),
 }
 
+impl Frame {
+    // The body begins so many bytes behind the first.
+    pub const HEAD: usize = 3;
+}
+
 impl Due {
     // May a tag stand there.
     fn allows(self, tag: u8) -> bool

@@ -6,13 +6,14 @@ use native.Mathlib.Omega.{arith}
 use borrow.Author.Needs.{needs}
 use lib.ListN.{length, take, drop, length-set, length-take, length-drop}
 use lib.Seq.{length-take-le, getD-take, getD-drop}
-use Rattle.answer.specs.Answers.{padded}
+use Rattle.question.specs.Limits.{maxTerms}
+use Rattle.outcome.specs.Padded.{padded}
 use Rattle.answer.proofs.PaddedLaws.{padded-more, padded-none, padded-all}
 use Rattle.answer.proofs.bodies.numbers_at.Statement.{statement}
 use Rattle.answer.proofs.bodies.numbers_at.Tie as tie
 
 abbrev Inv-loop : tie.InvT-loop
-Inv-loop bytes at terms numbers₀ i₀ numbers i = (i ≤ terms) × (length numbers ≡ 12) × (numbers ≡ padded (take i (take terms (drop at bytes))))
+Inv-loop bytes at terms numbers₀ i₀ numbers i = (i ≤ terms) × (length numbers ≡ maxTerms) × (numbers ≡ padded maxTerms (take i (take terms (drop at bytes))))
 
 abbrev μ-loop : tie.MeasureT-loop
 μ-loop bytes at terms numbers₀ i₀ numbers i = terms - i
@@ -24,13 +25,13 @@ loop-again c =
     let rest = drop (a .at) (now (a .bytes)) in
     let size : length (take (a .terms) rest) ≡ a .terms = length-take-le (a .terms) rest (simp length-drop (omega arith)) in
     let byte = c .byte-at .ensures ∙ sym (getD-take (a .terms) rest (l .loop .i) 0 (c .before .loop-test .taken) ∙ getD-drop (a .at) (now (a .bytes)) (l .loop .i) 0) in
-    (omega arith, simp length-set (l .loop .inv .1), rw (l .loop .inv .2) (padded-more (take (a .terms) rest) (l .loop .i) _ (omega arith) (omega arith) byte))
+    (omega arith, simp length-set (l .loop .inv .1), rw (l .loop .inv .2) (padded-more maxTerms (take (a .terms) rest) (l .loop .i) _ (omega arith) (omega arith) byte))
 
 returns : tie.Need-returns Inv-loop μ-loop
 returns c =
     let l = c .before in
     let a = l .before .before .args in
-    padded-all (take (a .terms) (drop (a .at) (now (a .bytes)))) (l .loop .numbers) (l .loop .i) (omega (arith, length-take (a .terms) (drop (a .at) (now (a .bytes))))) (l .loop .inv .2)
+    padded-all maxTerms (take (a .terms) (drop (a .at) (now (a .bytes)))) (l .loop .numbers) (l .loop .i) (omega (arith, length-take (a .terms) (drop (a .at) (now (a .bytes))))) (l .loop .inv .2)
 
 pub numbers-at-spec : {M : Type 1} → statement M
 numbers-at-spec =

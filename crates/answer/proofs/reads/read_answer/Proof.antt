@@ -8,7 +8,8 @@ use Rattle.question.specs.Questions.{termsOf}
 use Rattle.question.specs.Checks.{checked}
 use Rattle.question.proofs.AcceptedLaws.{accepted}
 use Rattle.theory.specs.Answers.{maskBound}
-use Rattle.answer.specs.Reads.{fileRead, checkedThen, readAnswer}
+use Rattle.outcome.specs.Checks.{acceptedThen}
+use Rattle.answer.specs.Reads.{refusedFile, fileRead, readAnswer}
 use Rattle.answer.proofs.reads.read_answer.Statement.{statement}
 use Rattle.answer.proofs.reads.read_answer.Tie as tie
 
@@ -21,7 +22,7 @@ unfolding readAnswer
 returns c =
     let k = c .before .before .before .before in
     let a = k .before .before .args in
-    c .refuse-file .ensures ∙ sym (ap (λ x. checkedThen x (fileRead (termsOf (a .q)) (maskBound (a .q)) (now (a .bytes)))) (sym (k .check .ensures) ∙ c .before .before .refusal .given .1))
+    c .refuse-file .ensures ∙ sym (ap (λ x. acceptedThen x refusedFile (fileRead (termsOf (a .q)) (maskBound (a .q)) (now (a .bytes)))) (sym (k .check .ensures) ∙ c .before .before .refusal .given .1))
 
 returns-2 : tie.Need-returns-2
 unfolding readAnswer

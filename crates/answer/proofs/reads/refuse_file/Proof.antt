@@ -1,11 +1,9 @@
 -- `refuse_file` puts the filler beside the refusal.
 use mathlib.Core.Path.{refl}
-use Rattle.answer.specs.Answers.{padded}
 use Rattle.answer.proofs.reads.refuse_file.Statement.{statement}
 use Rattle.answer.proofs.reads.refuse_file.Tie as tie
 
 returns : tie.Need-returns
-unfolding padded
 returns c = refl
 
 pub refuse-file-spec : {M : Type 1} → statement M

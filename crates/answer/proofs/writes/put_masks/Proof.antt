@@ -6,9 +6,10 @@ use native.Mathlib.Omega.{arith}
 use borrow.Author.Needs.{needs}
 use lib.ListN.{length, take, length-take}
 use lib.Seq.{length-take-le}
+use Rattle.question.specs.Limits.{maxTerms}
 use Rattle.field.specs.Writes.{fieldCount, fieldOver}
 use Rattle.field.proofs.WriteLaws.{written}
-use Rattle.answer.specs.Bodies.{masksBody}
+use Rattle.answer.specs.Bodies.{maskBytes, masksBody}
 use Rattle.answer.proofs.BodyLaws.{body-length}
 use Rattle.answer.proofs.writes.put_masks.Statement.{statement}
 use Rattle.answer.proofs.writes.put_masks.Tie as tie
@@ -16,15 +17,15 @@ use Rattle.answer.proofs.writes.put_masks.Tie as tie
 slice-aggregate-put-field : tie.Need-slice-aggregate-put-field
 slice-aggregate-put-field c =
     let body = c .before .mask-body .result in
-    let long : length body ≡ 24 = search needs in
-    sym (length-take-le (2 * c .before .before .before .args .classes) body (omega arith))
+    let long : length body ≡ maxTerms * maskBytes = search needs in
+    sym (length-take-le (c .before .before .before .args .classes * maskBytes) body (omega arith))
 
 returns : tie.Need-returns
 returns c =
     let m = c .before .before .before .before .before in
     let a = m .before .before .args in
     let masks = take (a .classes) (a .masks) in
-    let whole = written 0x42 (masksBody masks) (now (a .buf)) (omega (arith, body-length masks, length-take (a .classes) (a .masks))) (omega arith) in
+    let whole = written 0x42 (masksBody maskBytes masks) (now (a .buf)) (omega (arith, body-length maskBytes masks, length-take (a .classes) (a .masks))) (omega arith) in
     let f = c .before .before .put-field .ensures in
     (f .0 ∙ ap (λ b. fieldCount b (length (now (a .buf)))) (m .mask-body .ensures) ∙ whole .0 ∙ omega arith, f .1 ∙ ap (λ b. fieldOver 0x42 b (now (a .buf))) (m .mask-body .ensures) ∙ whole .1)
 

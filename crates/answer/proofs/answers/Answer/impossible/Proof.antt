@@ -1,11 +1,9 @@
 -- `Answer::impossible` has 0 in each of its entries.
 use mathlib.Core.Path.{refl}
-use Rattle.answer.specs.Answers.{padded}
 use Rattle.answer.proofs.answers.Answer.impossible.Statement.{statement}
 use Rattle.answer.proofs.answers.Answer.impossible.Tie as tie
 
 returns : tie.Need-returns
-unfolding padded
 returns c = refl
 
 pub impossible-spec : {M : Type 1} → statement M
