@@ -7,7 +7,7 @@ use native.Mathlib.Omega.{arith}
 use lib.ListN.{length, length-append}
 use Rattle.outcome.specs.declared.verdicts.Verdict.{Verdict}
 use Rattle.outcome.specs.declared.verdicts.Verdict.the-variants.{Possible, Impossible}
-use Rattle.outcome.specs.Verdicts.{verdictNumber}
+use Rattle.outcome.specs.Verdicts.{verdictByte}
 use Rattle.question.specs.Limits.{maxTerms}
 use Rattle.theory.specs.Solutions.{Solution}
 use Rattle.field.specs.declared.tags.File.the-variants.{Answer as AnswerFile}
@@ -43,7 +43,7 @@ module _ (T : ℕ) (a : Answer) where
 
 -- each field has as many bytes as the table says,
 pub verdict-length : (v : Verdict) → fieldLength AnswerFile 0x40 0 ≡ length (verdictBytes v)
-verdict-length v = length-written AnswerFile 0x40 0 (verdictNumber v ∷ []) verdict-sized (omega arith)
+verdict-length v = length-written AnswerFile 0x40 0 (verdictByte v ∷ []) verdict-sized (omega arith)
 
 pub numbers-length : (l : List ℕ) → length l ≤ maxTerms → fieldLength AnswerFile 0x41 (length l) ≡ length (numbersBytes l)
 numbers-length l few = length-written AnswerFile 0x41 (length l) l (numbers-sized (length l)) (omega arith)

@@ -8,7 +8,7 @@ use lib.ListN.{length, take, drop, length-append}
 use lib.Seq.{take-at, drop-at, drop-drop}
 use Rattle.outcome.specs.declared.verdicts.Verdict.{Verdict}
 use Rattle.outcome.specs.declared.verdicts.Verdict.the-variants.{Possible, Impossible}
-use Rattle.outcome.specs.Verdicts.{verdictNumber}
+use Rattle.outcome.specs.Verdicts.{verdictByte}
 use Rattle.outcome.specs.Padded.{padded}
 use Rattle.question.specs.Limits.{maxTerms}
 use Rattle.theory.specs.Arrangements.{classes}
@@ -32,8 +32,8 @@ use Rattle.answer.proofs.ReadLaws.{file-sound, verdict-none, verdict-so
 abbrev first : ℕ
 first = headLength + 1
 
-verdict-back : (T bound : ℕ) (v : Verdict) (rest : List ℕ) → fileRead T bound (verdictBytes v ++ rest) ≡ verdictRead T bound (verdictBytes v ++ rest) (verdictNumber v) first
-verdict-back T bound v rest = file-sound T bound (verdictBytes v ++ rest) 0x40 1 (due-sound AnswerFile 0x40 0 (verdictNumber v ∷ []) rest verdict-sized)
+verdict-back : (T bound : ℕ) (v : Verdict) (rest : List ℕ) → fileRead T bound (verdictBytes v ++ rest) ≡ verdictRead T bound (verdictBytes v ++ rest) (verdictByte v) first
+verdict-back T bound v rest = file-sound T bound (verdictBytes v ++ rest) 0x40 1 (due-sound AnswerFile 0x40 0 (verdictByte v ∷ []) rest verdict-sized)
 
 -- 7F, with which the data ends
 end-back : (bytes : List ℕ) (at : ℕ) → drop at bytes ≡ endBytes → length bytes ≤ at + headLength + 0 → (a : Answer) → endRead bytes at a ≡ accepted a

@@ -7,14 +7,14 @@ use Rattle.question.specs.Questions.{termsOf}
 use Rattle.theory.specs.Solutions.{Solution}
 use Rattle.field.specs.Heads.{fieldBytes, endBytes}
 use Rattle.outcome.specs.declared.verdicts.Verdict.{Verdict}
-use Rattle.outcome.specs.Verdicts.{verdictNumber}
+use Rattle.outcome.specs.Verdicts.{verdictByte}
 use Rattle.answer.specs.declared.answers.Answer.{Answer}
 use Rattle.answer.specs.Answers.{said, verdictOf}
 use Rattle.answer.specs.Bodies.{maskBytes, masksBody}
 
 -- field 40
 abbrev pub verdictBytes : Verdict → List ℕ
-verdictBytes v = fieldBytes 0x40 (verdictNumber v ∷ [])
+verdictBytes v = fieldBytes 0x40 (verdictByte v ∷ [])
 
 -- field 41
 abbrev pub numbersBytes : List ℕ → List ℕ

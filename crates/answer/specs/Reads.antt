@@ -14,7 +14,7 @@ use Rattle.question.specs.Checks.{checked}
 use Rattle.theory.specs.Arrangements.{classes}
 use Rattle.theory.specs.Answers.{maskBound}
 use Rattle.outcome.specs.declared.verdicts.Verdict.the-variants.{Possible, Impossible}
-use Rattle.outcome.specs.Verdicts.{verdictNumber}
+use Rattle.outcome.specs.Verdicts.{verdictByte}
 use Rattle.outcome.specs.Padded.{padded}
 use Rattle.question.specs.Limits.{maxTerms}
 use Rattle.answer.specs.declared.answers.Answer.{Answer}
@@ -78,8 +78,8 @@ numbersRead T bound bytes at =
 -- a verdict byte, before the field at a place: 00 impossible, 01 possible, any other gets 11
 unfoldable pub verdictRead : ℕ → ℕ → List ℕ → ℕ → ℕ → ReadAnswer
 verdictRead T bound bytes verdict next =
-    cond (eqb verdict (verdictNumber Impossible)) (endRead bytes next impossibleAnswer)
-    (cond (eqb verdict (verdictNumber Possible)) (numbersRead T bound bytes next)
+    cond (eqb verdict (verdictByte Impossible)) (endRead bytes next impossibleAnswer)
+    (cond (eqb verdict (verdictByte Possible)) (numbersRead T bound bytes next)
     (refusedAt badModel 0))
 
 -- 40 at place 0

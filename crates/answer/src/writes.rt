@@ -19,7 +19,7 @@ ghost use mathlib.Core.Path.{_≡_};
 ghost use Prim.Native.Nat.{_*_, _≤_};
 ghost use lib.ListN.{length, take};
 ghost use Rattle.question.specs.Limits.{maxTerms};
-ghost use Rattle.outcome.specs.Verdicts.{verdictNumber};
+ghost use Rattle.outcome.specs.Verdicts.{verdictByte};
 ghost use Rattle.outcome.specs.Writes.{over, fittedOver, fitted};
 ghost use Rattle.answer.specs.Answers.{cutTo, said};
 ghost use Rattle.answer.specs.Bytes.{numbersBytes, masksBytes, solutionBytes, modelBytes, fileOf};
@@ -70,7 +70,7 @@ fn put_model(a: Answer, terms: usize, classes: usize, buf: &mut [u8]) -> usize
 
 // The body of field 40.
 fn verdict_byte(verdict: Verdict) -> u8
-    ensures { λ r. ⌜ r ≡ verdictNumber verdict ⌝ }
+    ensures { λ r. ⌜ r ≡ verdictByte verdict ⌝ }
 {
     match verdict {
         Verdict::Impossible => 0,

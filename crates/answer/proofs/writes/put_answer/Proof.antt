@@ -11,7 +11,7 @@ use Rattle.outcome.proofs.OverLaws.{Run, run-first, run-room, run-on, run-end}
 use Rattle.field.specs.Writes.{fieldCount, fieldOver}
 use Rattle.field.proofs.WriteLaws.{written}
 use Rattle.answer.specs.Answers.{said, verdictOf}
-use Rattle.outcome.specs.Verdicts.{verdictNumber}
+use Rattle.outcome.specs.Verdicts.{verdictByte}
 use Rattle.field.specs.Heads.{endBytes}
 use Rattle.answer.specs.Bytes.{verdictBytes, modelBytes, fileOf}
 use Rattle.answer.proofs.AnswerLaws.{said-verdict}
@@ -29,8 +29,8 @@ begun c =
     let s = v .before .before in
     let a = s .args in
     let told = said (a .terms) (a .a) in
-    let byte : v .verdict-byte .result ≡ verdictNumber (verdictOf told) = v .verdict-byte .ensures ∙ ap verdictNumber (sym (said-verdict (a .terms) (a .a))) in
-    let whole = written 0x40 (verdictNumber (verdictOf told) ∷ []) (now (a .buf)) (omega arith) (omega (arith, s .pre .3)) in
+    let byte : v .verdict-byte .result ≡ verdictByte (verdictOf told) = v .verdict-byte .ensures ∙ ap verdictByte (sym (said-verdict (a .terms) (a .a))) in
+    let whole = written 0x40 (verdictByte (verdictOf told) ∷ []) (now (a .buf)) (omega arith) (omega (arith, s .pre .3)) in
     run-first (verdictBytes (verdictOf told)) (modelBytes told ++ endBytes) (p .ensures .0 ∙ ap (λ b. fieldCount (b ∷ []) (length (now (a .buf)))) byte ∙ whole .0) (p .ensures .1 ∙ ap (λ b. fieldOver 0x40 (b ∷ []) (now (a .buf))) byte ∙ whole .1)
 
 -- what follows fits behind it
