@@ -21,7 +21,7 @@ stand c =
     rows-stand _ _ _ _ (r .ensures .1) (sym (r .ensures .0) ∙ c .before .count .given .1)
 
 returns : tie.Need-returns
-returns c = c .refuse .ensures ∙ sym (decided-refused _ _ (refusal-told _ _ (omega arith) _ (sym (c .before .before .before .before .before .reduce .ensures .0) ∙ c .before .before .refusal .given .1)))
+returns c = c .refused .ensures ∙ sym (decided-refused _ _ (refusal-told _ _ (omega arith) _ (sym (c .before .before .before .before .before .reduce .ensures .0) ∙ c .before .before .refusal .given .1)))
 
 returns-2 : tie.Need-returns-2
 returns-2 c =
