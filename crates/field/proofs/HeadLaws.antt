@@ -5,9 +5,9 @@ use mathlib.Core.List.{List, [], _∷_, _++_}
 use native.Mathlib.Omega.{arith}
 use native.Mathlib.Numerals.{add-one, add-two}
 use lib.ListN.{length, getD, take, drop, take-append-drop}
-use lib.Seq.{drop-cons, length-take-le}
+use lib.Seq.{getD-drop, drop-cons, length-take-le}
 use Rattle.field.specs.declared.heads.Head.the-variants.{Short, Whole}
-use Rattle.field.specs.Heads.{headOf, fieldBytes}
+use Rattle.field.specs.Heads.{headLength, headOf, fieldBytes}
 use Rattle.outcome.proofs.Never.{never}
 
 pub short : (bytes : List ℕ) → length bytes < 3 → headOf bytes ≡ Short
@@ -34,6 +34,10 @@ three-at bytes at h =
 pub whole-at : (bytes : List ℕ) (at : ℕ) → at + 2 < length bytes → headOf (drop at bytes) ≡ Whole (getD bytes at 0) (getD bytes (at + 1) 0 * 256 + getD bytes (at + 2) 0)
 unfolding headOf
 whole-at bytes at h = rw (three-at bytes at h)
+
+-- the byte i of a body
+pub body-byte : (bytes : List ℕ) (at i : ℕ) → getD (drop headLength (drop at bytes)) i 0 ≡ getD bytes (at + (headLength + i)) 0
+body-byte bytes at i = getD-drop headLength (drop at bytes) i 0 ∙ getD-drop at bytes (headLength + i) 0
 
 -- what was written is read back
 pub head-written : (tag : ℕ) (body rest : List ℕ) → headOf (fieldBytes tag body ++ rest) ≡ Whole tag (length body)
