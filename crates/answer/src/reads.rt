@@ -32,11 +32,7 @@ pub struct ReadAnswer {
 fn refuse_file(refusal: Refusal) -> ReadAnswer
     ensures { λ r. ⌜ r ≡ refusedFile refusal ⌝ }
 {
-    let filler = Answer {
-        verdict: Verdict::Possible,
-        arrangement: [0; Question::MAX_TERMS],
-        masks: [0; Question::MAX_TERMS],
-    };
+    let filler = Answer::filler();
     ReadAnswer {
         outcome: Check::Refused(refusal),
         answer: filler,

@@ -1,4 +1,4 @@
--- The answer to an accepted question is one that may be said: written, it is the file of the answer, which has 49 bytes at the most.
+-- The answer to an accepted question is one that may be said: written, it is the file of the answer, which is never longer than the longest.
 use Prim.Native.Nat.{ℕ, _≤_}
 use mathlib.Core.Path.{_≡_, refl}
 use mathlib.Core.Bool.{true}
@@ -19,7 +19,7 @@ use Rattle.theory.specs.Solutions.{Solution}
 use Rattle.theory.specs.Answers.{maskBound, answer}
 use Rattle.theory.proofs.AnswerLaws.{answer-solution}
 use Rattle.answer.specs.Answers.{said, asAnswer, MaySay}
-use Rattle.answer.specs.Bytes.{fileOf}
+use Rattle.answer.specs.Bytes.{fileOf, longestAnswer}
 use Rattle.answer.specs.Checks.{isGood}
 use Rattle.outcome.specs.Writes.{fittedOver, fitted}
 use Rattle.answer.specs.Writes.{goodWritten, goodOver, written, writtenOver}
@@ -37,10 +37,10 @@ module _ (q : Question) (e : checked q ≡ Accepted) where
           record { arranged = s .arranged; each-term = s .each-term; each-class = s .each-class; masks-below = s .masks-below }
 
   -- its file
-  pub file-short : length (fileOf (answer q)) ≤ 49
+  pub file-short : length (fileOf (answer q)) ≤ longestAnswer
   file-short = go (answer q) answer-may
     where
-      go : (o : Option Solution) → MaySay (termsOf q) (maskBound q) o → length (fileOf o) ≤ 49
+      go : (o : Option Solution) → MaySay (termsOf q) (maskBound q) o → length (fileOf o) ≤ longestAnswer
       go none w = omega (arith, none-length)
       go (some sol) w = omega (arith, some-length sol, w .each-term, w .each-class, may-few (termsOf q) (maskBound q) sol w, accepted q .0 e .few-terms)
 

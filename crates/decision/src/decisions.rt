@@ -2,7 +2,6 @@
 use answer::Answer;
 use outcome::Check;
 use outcome::Refusal;
-use outcome::Verdict;
 use outcome::Written;
 use question::Question;
 use question::terms;
@@ -23,11 +22,7 @@ impl Decision {
     pub fn refused(refusal: Refusal) -> Decision
         ensures { λ r. ⌜ r ≡ undecided refusal ⌝ }
     {
-        let filler = Answer {
-            verdict: Verdict::Possible,
-            arrangement: [0; Question::MAX_TERMS],
-            masks: [0; Question::MAX_TERMS],
-        };
+        let filler = Answer::filler();
         Decision {
             outcome: Check::Refused(refusal),
             answer: filler,

@@ -1,13 +1,19 @@
 -- What is decided and written of a question file, by whether the file is accepted; and that its numbers leave room for the lowest byte.
-use Prim.Native.Nat.{ℕ, _≤_}
+use Prim.Native.Nat.{ℕ, _+_, _/_, _%_, _≤_}
 use mathlib.Core.Path.{_≡_, refl, sym, ap, ap₂, _∙_}
 use mathlib.Core.Bool.{Bool, true, false, cond}
-use mathlib.Core.List.{List}
+use mathlib.Core.List.{List, [], _∷_, _++_}
 use native.Mathlib.Omega.{arith}
 use borrow.Author.Tests.{ltb-false}
 use lib.Dec.{ltb}
 use lib.ListN.{length}
 use Rattle.outcome.specs.declared.refusals.Refusal.{Refusal}
+use Rattle.field.specs.declared.tags.File.the-variants.{Report as ReportFile}
+use Rattle.field.specs.Heads.{fieldBytes, endBytes}
+use Rattle.field.specs.Numbers.{bytesOf}
+use Rattle.field.specs.Writes.{fieldLength}
+use Rattle.field.proofs.TagLaws.{rule, fixed}
+use Rattle.field.proofs.WriteLaws.{length-written}
 use Rattle.question.specs.declared.questions.Question.{Question}
 use Rattle.outcome.specs.declared.checks.Check.the-variants.{Accepted, Refused}
 use Rattle.outcome.specs.Refusals.{refusal, bufferTooShort}
@@ -22,7 +28,7 @@ use Rattle.outcome.proofs.OverLaws.{over-length}
 use Rattle.outcome.proofs.Never.{never}
 use Rattle.theory.specs.Answers.{answer}
 use Rattle.outcome.specs.declared.writes.Written.the-variants.{Count, Refused as NotWritten}
-use Rattle.answer.specs.Bytes.{fileOf}
+use Rattle.answer.specs.Bytes.{fileOf, longestAnswer}
 use Rattle.outcome.specs.Checks.{acceptedThen}
 use Rattle.answer.specs.Answers.{asAnswer}
 use Rattle.decision.specs.Decisions.{undecided, decidedAs, decided}
@@ -98,7 +104,7 @@ module _ (bytes : List ℕ) where
   unfolding answered
   answered-short room = go (readQuestion bytes .outcome) refl
     where
-      fits : (b : Bool) → length (fileOf (answerIn bytes)) ≤ 49 → IsShort (cond b (NotWritten (refusal bufferTooShort 0)) (Count (length (fileOf (answerIn bytes)))))
+      fits : (b : Bool) → length (fileOf (answerIn bytes)) ≤ longestAnswer → IsShort (cond b (NotWritten (refusal bufferTooShort 0)) (Count (length (fileOf (answerIn bytes)))))
       fits true h = omega arith
       fits false h = omega arith
 
@@ -118,3 +124,15 @@ within bytes old new n e b = rw b (go (ltb (length old) (length bytes)) refl e)
 pub response-within : (bytes old new : List ℕ) (n : ℕ) → responded bytes (length old) ≡ Count n → new ≡ respondedOver bytes old → n ≤ length new
 unfolding responded respondedOver
 response-within bytes old new n e b = within (response bytes) old new n e b
+
+-- a report has a number and a place in two bytes, and nine bytes in all
+pub report-body : (r : Refusal) → reportBytes r ≡ fieldBytes 0x44 (r .number ∷ r .place / 256 % 256 ∷ r .place % 256 ∷ []) ++ endBytes
+unfolding bytesOf
+report-body r = refl
+
+pub report-length : (r : Refusal) → length (reportBytes r) ≡ 9
+report-length r = ap length (report-body r)
+
+-- its length by the table
+pub report-sized : fieldLength ReportFile 0x44 0 + fieldLength ReportFile 0x7f 0 ≡ 9
+report-sized = omega (arith, length-written ReportFile 0x44 0 (0 ∷ 0 ∷ 0 ∷ []) (fixed ReportFile 0x44 0 3 (rule ReportFile 0x44)) (omega arith), length-written ReportFile 0x7f 0 [] (fixed ReportFile 0x7f 0 0 (rule ReportFile 0x7f)) (omega arith))

@@ -1,4 +1,4 @@
--- What the program rests on: a response has 49 bytes at the most, so its buffer is never too short; and a question file's first 4,096 bytes give the response to all of it.
+-- What the program rests on: a response is never longer than the longest answer, so its buffer is never too short; and a question file's first 4,096 bytes give the response to all of it.
 use Prim.Native.Nat.{ℕ, _≤_}
 use denote.Ref.{now}
 use mathlib.Core.Path.{_≡_, refl, sym, ap, _∙_}
@@ -22,31 +22,32 @@ use Rattle.theory.specs.Answers.{answer}
 use Rattle.outcome.specs.Writes.{over}
 use Rattle.outcome.specs.Calls.{Call}
 use Rattle.outcome.specs.declared.writes.Written.the-variants.{Count}
-use Rattle.answer.specs.Bytes.{fileOf}
+use Rattle.answer.specs.Bytes.{fileOf, longestAnswer}
 use Rattle.answer.proofs.AnswerLaws.{some-length}
 use Rattle.outcome.specs.Checks.{acceptedThen}
 use Rattle.sayfudhoum.specs.Files.{answerIn, reportBytes, response, responded, respondedOver}
 use Rattle.decision.proofs.AnsweredLaws.{file-short}
+use Rattle.sayfudhoum.proofs.FileLaws.{report-length}
 use Rattle.sayfudhoum.proofs.EndToEnd.{IsImpossible, IsShown, impossibleFile, none-means, some-shown, refused-accepted, not-both, possible-shown, none-file}
 use Rattle.sayfudhoum.proofs.files.respond.Reads as respond
 
 module _ (bytes : List ℕ) where
-  -- an answer has 49 bytes at the most, and a report nine
-  pub response-short : length (response bytes) ≤ 49
+  -- an answer is never longer than the longest, and a report has nine bytes
+  pub response-short : length (response bytes) ≤ longestAnswer
   unfolding response
   response-short = go (readQuestion bytes .outcome) refl
     where
-      go : (o : Check) → readQuestion bytes .outcome ≡ o → length (acceptedThen o reportBytes (fileOf (answerIn bytes))) ≤ 49
+      go : (o : Check) → readQuestion bytes .outcome ≡ o → length (acceptedThen o reportBytes (fileOf (answerIn bytes))) ≤ longestAnswer
       go Accepted p = file-short (readQuestion bytes .question) (read-checked bytes p)
-      go (Refused r) p = omega arith
+      go (Refused r) p = omega (arith, report-length r)
 
-  -- so where there is room for 49 bytes 10 never comes
-  pub response-fits : (room : ℕ) → 49 ≤ room → responded bytes room ≡ Count (length (response bytes))
+  -- so where there is room for the longest answer 10 never comes
+  pub response-fits : (room : ℕ) → longestAnswer ≤ room → responded bytes room ≡ Count (length (response bytes))
   unfolding responded
   response-fits room h = rw (le-ltb room (length (response bytes)) (omega (arith, response-short)))
 
   -- and the response stands at the front of the buffer
-  pub response-over : (old : List ℕ) → 49 ≤ length old → respondedOver bytes old ≡ over (response bytes) old
+  pub response-over : (old : List ℕ) → longestAnswer ≤ length old → respondedOver bytes old ≡ over (response bytes) old
   unfolding respondedOver
   response-over old h = rw (le-ltb (length old) (length (response bytes)) (omega (arith, response-short)))
 
@@ -87,7 +88,7 @@ module _ (bytes : List ℕ) where
   response-impossible-exactly = (λ e. said e response-says, λ i. gives i response-says)
     where
       said : response bytes ≡ impossibleFile → Responds bytes (response bytes) → IsImpossible bytes
-      said e (file-refused r p b) = absurd (omega (arith, ap length (sym e ∙ b)))
+      said e (file-refused r p b) = absurd (omega (arith, ap length (sym e ∙ b), report-length r))
       said e (impossible i b) = i
       said e (possible sol s b) = absurd (omega (arith, ap length (sym e ∙ b), some-length sol))
 
@@ -96,8 +97,8 @@ module _ (bytes : List ℕ) where
       gives i (impossible _ b) = b
       gives i (possible sol s b) = not-both i (possible-shown bytes .1 (sol, s))
 
--- so a call of `respond` on the first 4,096 bytes, with a buffer of 49 bytes or more, writes the response to all of them, and is not refused
-pub program-responds : (bytes : List ℕ) (c : Call respond.Learnt) → now (c .given .0) ≡ take 4096 bytes → 49 ≤ length (now (c .given .1 .0)) →
+-- so a call of `respond` on the first 4,096 bytes, with room for the longest answer, writes the response to all of them, and is not refused
+pub program-responds : (bytes : List ℕ) (c : Call respond.Learnt) → now (c .given .0) ≡ take 4096 bytes → longestAnswer ≤ length (now (c .given .1 .0)) →
     (c .result ≡ Count (length (response bytes))) × (now (c .exit .1 .0) ≡ over (response bytes) (now (c .given .1 .0)))
 program-responds bytes c e h =
     let same : response (now (c .given .0)) ≡ response bytes = ap response e ∙ first-response bytes 4096 (omega arith) in (

@@ -41,7 +41,6 @@ behind (x ∷ l) n zero = refl
 behind (x ∷ l) n (suc i) = behind l n i
 
 entry : (l : List ℕ) (i : ℕ) → getD (padded maxTerms l) i 0 ≡ getD l i 0
-unfolding padded
 entry l i = behind l (maxTerms - length l) i
 
 module _ (q : Question) (accepted : IsAccepted q) (sol : Solution) (s : Solves q sol) where

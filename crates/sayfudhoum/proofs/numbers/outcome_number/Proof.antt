@@ -3,7 +3,7 @@ use Prim.Native.Nat.{_*_}
 use mathlib.Core.Path.{sym, ap, _∙_}
 use native.Mathlib.Omega.{arith}
 use borrow.Author.Needs.{needs}
-use Rattle.answer.specs.Bytes.{verdictByte}
+use Rattle.outcome.specs.Verdicts.{verdictByte}
 use Rattle.sayfudhoum.specs.Numbers.{outcomeNumber}
 use Rattle.sayfudhoum.proofs.NumberLaws.{verdict-small, outcome-place}
 use Rattle.sayfudhoum.proofs.numbers.outcome_number.Statement.{statement}
