@@ -25,7 +25,7 @@ use sayfudhoum::answer_file;
 use sayfudhoum::respond;
 use sayfudhoum::sayfudhoum_verdict;
 use search::SearchAnswer;
-use search::Verdict;
+use outcome::Verdict;
 use search::search;
 
 // T: the check of a table.

@@ -1,7 +1,7 @@
 // Models and rows as they may be handed in, four bytes a mask or row, high byte first.
 use crate::tables::byte_at;
 use answer::Answer;
-use answer::Verdict;
+use outcome::Verdict;
 use judge::Model;
 use search::SearchAnswer;
 ghost use Prim.Native.Nat.{_≤_};

@@ -5,7 +5,7 @@ use outcome::Check;
 use outcome::Refusal;
 use outcome::Written;
 use search::SearchAnswer;
-use search::Verdict;
+use outcome::Verdict;
 
 pub(crate) fn text(words: &[u8]) {
     io::write_all(STDOUT_FILENO, words);

@@ -5,10 +5,10 @@ use crate::patterns::stated;
 use crate::printing;
 use crate::trials::exists;
 use answer::Answer;
-use answer::Verdict;
+use outcome::Verdict;
 use outcome::Check;
 use question::Question;
-use sayfudhoum::decide;
+use decision::decide;
 
 pub struct Tally {
     pub questions: u64,
