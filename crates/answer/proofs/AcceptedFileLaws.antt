@@ -22,10 +22,10 @@ use Rattle.field.specs.declared.frames.Due.the-variants.{Only}
 use Rattle.field.specs.declared.frames.Frame.{Frame}
 use Rattle.field.specs.declared.frames.Frame.the-variants.{Sound, Refused as BadFrame}
 use Rattle.field.specs.Heads.{headLength, fieldBytes, endBytes}
-use Rattle.field.specs.Numbers.{AreBytes}
+use Rattle.number.specs.Numbers.{AreBytes}
 use Rattle.field.proofs.TagLaws.{Sized}
 use Rattle.field.proofs.FrameLaws.{sound-due, sound-written, within}
-use Rattle.field.proofs.NumberLaws.{bytes-drop}
+use Rattle.number.proofs.NumberLaws.{bytes-drop}
 use Rattle.answer.specs.declared.answers.Answer.{Answer}
 use Rattle.answer.specs.declared.reads.ReadAnswer.{ReadAnswer}
 use Rattle.answer.specs.Answers.{asAnswer, impossibleAnswer, IsArranged, MaySay}

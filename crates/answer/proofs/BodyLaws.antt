@@ -7,8 +7,8 @@ use native.Mathlib.Nat.{suc-mul, zero-mul, add-comm}
 use native.Mathlib.Numerals.{add-one}
 use lib.ListN.{length, getD, take, drop, length-append, length-drop}
 use lib.Seq.{length-take-le, take-suc, take-at, drop-at, take-add, drop-drop}
-use Rattle.field.specs.Numbers.{AreBytes, bytesOf, numberIn}
-use Rattle.field.proofs.NumberLaws.{bytes-length, number-back, bytes-back, bytes-take, bytes-drop}
+use Rattle.number.specs.Numbers.{AreBytes, bytesOf, numberIn}
+use Rattle.number.proofs.NumberLaws.{bytes-length, number-back, bytes-back, bytes-take, bytes-drop}
 use Rattle.answer.specs.Bodies.{masksBody, masksIn}
 
 module _ (w : ℕ) where

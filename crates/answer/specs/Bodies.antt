@@ -2,7 +2,7 @@
 use Prim.Native.Nat.{ℕ, zero, suc}
 use mathlib.Core.List.{List, [], _∷_, _++_}
 use lib.ListN.{take, drop}
-use Rattle.field.specs.Numbers.{bytesOf, numberIn}
+use Rattle.number.specs.Numbers.{bytesOf, numberIn}
 
 -- a mask has two bytes, one bit for each of 16 sets
 abbrev pub maskBytes : ℕ

@@ -15,8 +15,10 @@ pub struct Answer {
 
 impl Answer {
     // The bytes of the longest answer: four heads, the verdict, a class number for each term and a mask for each class.
-    pub const MAX_BYTES: usize =
-        4 * Frame::HEAD + 1 + Question::MAX_TERMS + Question::MAX_TERMS * MASK_BYTES;
+    pub const MAX_BYTES: usize = 4 * Frame::HEAD
+        + 1
+        + Question::MAX_TERMS
+        + Question::MAX_TERMS * MASK_BYTES;
 
     // What stands beside a refusal. It says possible: who forgets to look at the refusal is not told "impossible".
     pub fn filler() -> Answer

@@ -1,14 +1,14 @@
 // The bodies of fields 41 and 42: class numbers of one byte each, and masks of two.
 use field::byte_at;
-use field::number_in;
-use field::put_number;
+use number::number_in;
+use number::put_number;
 use question::Question;
 ghost use mathlib.Core.Path.{_≡_};
 ghost use Prim.Native.Nat.{_+_, _*_, _≤_};
 ghost use lib.ListN.{length, take, drop};
 ghost use Rattle.question.specs.Limits.{maxTerms};
 ghost use Rattle.outcome.specs.Padded.{padded};
-ghost use Rattle.field.specs.Numbers.{numberIn};
+ghost use Rattle.number.specs.Numbers.{numberIn};
 ghost use Rattle.answer.specs.Bodies.{maskBytes, masksIn, masksBody};
 
 pub(crate) const MASK_BYTES: usize = 2;

@@ -15,6 +15,7 @@ use answer::read_answer;
 use answer::write_answer;
 use judge::judge;
 use outcome::Check;
+use outcome::Verdict;
 use outcome::Written;
 use question::Question;
 use question::check;
@@ -25,7 +26,6 @@ use sayfudhoum::answer_file;
 use sayfudhoum::respond;
 use sayfudhoum::sayfudhoum_verdict;
 use search::SearchAnswer;
-use outcome::Verdict;
 use search::search;
 
 // T: the check of a table.

@@ -1,8 +1,8 @@
 // Models and rows as they may be handed in, four bytes a mask or row, high byte first.
 use crate::tables::byte_at;
 use answer::Answer;
-use outcome::Verdict;
 use judge::Model;
+use outcome::Verdict;
 use search::SearchAnswer;
 ghost use Prim.Native.Nat.{_≤_};
 ghost use lib.ListN.{length};

@@ -3,9 +3,9 @@ use judge::Judgement;
 use libc::STDOUT_FILENO;
 use outcome::Check;
 use outcome::Refusal;
+use outcome::Verdict;
 use outcome::Written;
 use search::SearchAnswer;
-use outcome::Verdict;
 
 pub(crate) fn text(words: &[u8]) {
     io::write_all(STDOUT_FILENO, words);

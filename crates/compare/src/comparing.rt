@@ -5,10 +5,10 @@ use crate::patterns::stated;
 use crate::printing;
 use crate::trials::exists;
 use answer::Answer;
-use outcome::Verdict;
-use outcome::Check;
-use question::Question;
 use decision::decide;
+use outcome::Check;
+use outcome::Verdict;
+use question::Question;
 
 pub struct Tally {
     pub questions: u64,

@@ -1,6 +1,5 @@
 -- Each public contract of this crate leaves one result, and where a buffer is lent one buffer.
 use denote.Ref.{now}
-use mathlib.Core.Path.{refl}
 use Rattle.outcome.specs.OneResult.{OneResult}
 use Rattle.outcome.specs.OneOutcome.{OneOutcome}
 use Rattle.outcome.proofs.OneLaw.{both}
@@ -9,8 +8,6 @@ use Rattle.field.proofs.heads.byte_at.Reads as byte-at
 use Rattle.field.proofs.frames.frame_at.Reads as frame-at
 use Rattle.field.proofs.writes.field_length.Reads as field-length
 use Rattle.field.proofs.writes.put_field.Reads as put-field
-use Rattle.field.proofs.numbers.number_in.Reads as number-in
-use Rattle.field.proofs.numbers.put_number.Reads as put-number
 
 length-of-one : OneResult length-of.Learnt
 length-of-one κs given x y s t = both
@@ -26,9 +23,3 @@ field-length-one κs given x y s t = both
 
 put-field-one : OneOutcome put-field.Learnt (λ κs s. now (s .1 .1 .0))
 put-field-one κs given x y s t p q = (both (p .0) (q .0), both (p .1) (q .1))
-
-number-in-one : OneResult number-in.Learnt
-number-in-one κs given x y s t = both
-
-put-number-one : OneOutcome put-number.Learnt (λ κs s. now (s .1 .0))
-put-number-one κs given x y s t p q = (refl, both p q)

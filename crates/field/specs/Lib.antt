@@ -3,4 +3,3 @@ pub mod Tags
 pub mod Heads
 pub mod Frames
 pub mod Writes
-pub mod Numbers

@@ -1,7 +1,6 @@
-// What all files share: the one table of tags and body lengths, the frame of a field, writing a field, and numbers in bytes.
+// What all files share: the one table of tags and body lengths, the frame of a field, and writing a field.
 mod frames;
 mod heads;
-mod numbers;
 mod tags;
 mod writes;
 
@@ -9,8 +8,6 @@ pub use frames::Due;
 pub use frames::Frame;
 pub use frames::frame_at;
 pub use heads::byte_at;
-pub use numbers::number_in;
-pub use numbers::put_number;
 pub use tags::BodyLength;
 pub use tags::File;
 pub use tags::length_of;

@@ -7,7 +7,7 @@ use native.Mathlib.Omega.{arith}
 use borrow.Author.Tests.{eqb-true, eqb-false, ne-eqb}
 use lib.Dec.{eqb}
 use lib.ListN.{length, getD, take, drop, length-drop}
-use lib.Seq.{length-take-le, getD-drop}
+use lib.Seq.{length-take-le}
 use Rattle.outcome.proofs.Never.{never}
 use Rattle.field.specs.declared.tags.File.the-variants.{Question as QuestionFile}
 use Rattle.field.specs.declared.tags.BodyLength.the-variants.{Fixed}
@@ -43,10 +43,6 @@ Says rest at (Names E S next) = (at ≡ 0) × Wrote (namesBytes E S) rest at nex
 Says rest at (Stated s next) = (at ≡ 0 → ⊥) × Wrote (statementBytes s) rest at next
 Says rest at (Ended next) = (at ≡ 0 → ⊥) × Wrote endBytes rest at next
 Says rest at (Refused number) = (1 ≤ number) × (number ≤ 4)
-
--- the byte i of a body
-pub body-byte : (bytes : List ℕ) (at i : ℕ) → getD (drop 3 (drop at bytes)) i 0 ≡ getD bytes (at + (3 + i)) 0
-body-byte bytes at i = getD-drop 3 (drop at bytes) i 0 ∙ getD-drop at bytes (3 + i) 0
 
 -- the first bytes of a body, one by one
 first-bytes : (n : ℕ) (body : List ℕ) → n ≤ 3 → n ≤ length body → take n (getD body 0 0 ∷ getD body 1 0 ∷ getD body 2 0 ∷ []) ≡ take n body

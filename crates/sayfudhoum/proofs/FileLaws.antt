@@ -10,7 +10,7 @@ use lib.ListN.{length}
 use Rattle.outcome.specs.declared.refusals.Refusal.{Refusal}
 use Rattle.field.specs.declared.tags.File.the-variants.{Report as ReportFile}
 use Rattle.field.specs.Heads.{fieldBytes, endBytes}
-use Rattle.field.specs.Numbers.{bytesOf}
+use Rattle.number.specs.Numbers.{bytesOf}
 use Rattle.field.specs.Writes.{fieldLength}
 use Rattle.field.proofs.TagLaws.{rule, fixed}
 use Rattle.field.proofs.WriteLaws.{length-written}

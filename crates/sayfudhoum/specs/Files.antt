@@ -7,7 +7,7 @@ use Rattle.outcome.specs.declared.writes.Written.{Written}
 use Rattle.outcome.specs.Checks.{acceptedThen}
 use Rattle.outcome.specs.Writes.{fitted, fittedOver, checkedThen, checkedOver}
 use Rattle.field.specs.Heads.{fieldBytes, endBytes}
-use Rattle.field.specs.Numbers.{bytesOf}
+use Rattle.number.specs.Numbers.{bytesOf}
 use Rattle.question_file.specs.Reads.{readQuestion}
 use Rattle.theory.specs.Solutions.{Solution}
 use Rattle.theory.specs.Answers.{answer}

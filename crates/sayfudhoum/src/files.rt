@@ -33,12 +33,12 @@ pub fn decide_file(bytes: &[u8]) -> Decision
 pub fn answer_file(bytes: &[u8], buf: &mut [u8]) -> Written
     ensures { λ r. ⌜ (r ≡ answered (now (bytes .entry)) (length (now (buf .entry)))) × (now (buf .exit) ≡ answeredOver (now (bytes .entry)) (now (buf .entry))) ⌝ }
 {
-    let read = read_question(bytes);
-    let outcome = read.outcome;
+    let file = read_question(bytes);
+    let outcome = file.outcome;
     match outcome {
         Check::Refused(refusal) => Written::Refused(refusal),
         Check::Accepted => {
-            let question = read.question;
+            let question = file.question;
             answer_question(question, buf)
         }
     }
@@ -64,12 +64,12 @@ fn report(refusal: Refusal, buf: &mut [u8]) -> Written
 pub fn respond(bytes: &[u8], buf: &mut [u8]) -> Written
     ensures { λ r. ⌜ (r ≡ responded (now (bytes .entry)) (length (now (buf .entry)))) × (now (buf .exit) ≡ respondedOver (now (bytes .entry)) (now (buf .entry))) ⌝ }
 {
-    let read = read_question(bytes);
-    let outcome = read.outcome;
+    let asked = read_question(bytes);
+    let outcome = asked.outcome;
     match outcome {
         Check::Refused(refusal) => report(refusal, buf),
         Check::Accepted => {
-            let question = read.question;
+            let question = asked.question;
             answer_question(question, buf)
         }
     }

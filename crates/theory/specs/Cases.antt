@@ -1,15 +1,13 @@
 -- The table A to N of document 01: each question with its answer, classes / masks.
-use Prim.Native.Nat.{ℕ, _-_}
-use mathlib.Core.List.{List, [], _∷_, _++_, map}
+use Prim.Native.Nat.{ℕ}
+use mathlib.Core.List.{List, [], _∷_}
 use mathlib.Core.Option.{Option, none, some}
-use lib.ListN.{length, replicate}
 use Rattle.question.specs.declared.names.ElementName.{ElementName}
 use Rattle.question.specs.declared.names.SetName.{SetName}
 use Rattle.question.specs.declared.statements.Statement.{Statement}
 use Rattle.question.specs.declared.statements.Statement.the-variants.{ElementsEqual, ElementsDiffer, In, NotIn, SetsEqual, SetsDiffer, Empty, Single, Union, Intersection, Difference}
 use Rattle.question.specs.declared.questions.Question.{Question}
-use Rattle.question.specs.Limits.{maxStatements}
-use Rattle.question.specs.Questions.{idle}
+use Rattle.question.specs.Questions.{questionOf}
 use Rattle.theory.specs.Solutions.{Solution, withMasks}
 
 -- e and s are names
@@ -18,10 +16,6 @@ e n = record { 0 = n }
 
 abbrev pub s : ℕ → SetName
 s n = record { 0 = n }
-
--- the question with E element names, S set names and these statements; the rest of its table is idle
-abbrev pub question : ℕ → ℕ → List Statement → Question
-question E S ss = record { elements = E; sets = S; count = length ss; table = map (λ s. record { statement = s }) ss ++ replicate (maxStatements - length ss) idle }
 
 -- an answer: classes / masks, or impossible
 abbrev pub possible : List ℕ → List ℕ → Option Solution
@@ -36,7 +30,7 @@ pub record Case : Type 0 where
   pub answers : Option Solution
 
 abbrev pub case : ℕ → ℕ → List Statement → Option Solution → Case
-case E S ss a = record { asks = question E S ss; answers = a }
+case E S ss a = record { asks = questionOf E S ss; answers = a }
 
 -- E=0 S=0, nothing: possible, empty / empty
 abbrev pub caseA : Case

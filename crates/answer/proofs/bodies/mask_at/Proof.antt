@@ -6,8 +6,8 @@ use native.Mathlib.Omega.{arith}
 use borrow.Author.Needs.{needs}
 use lib.ListN.{length, take, drop, length-take, length-drop}
 use lib.Seq.{length-take-le, take-all}
-use Rattle.field.specs.Numbers.{mostBytes, numberIn}
-use Rattle.field.proofs.NumberLaws.{number-below, bytes-take, bytes-drop}
+use Rattle.number.specs.Numbers.{mostBytes, numberIn}
+use Rattle.number.proofs.NumberLaws.{number-below, bytes-take, bytes-drop}
 use Rattle.answer.specs.Bodies.{maskBytes}
 use Rattle.answer.proofs.bodies.mask_at.Statement.{statement}
 use Rattle.answer.proofs.bodies.mask_at.Tie as tie

@@ -5,8 +5,8 @@ use native.Mathlib.Omega.{arith}
 use borrow.Author.Needs.{needs}
 use lib.ListN.{length, getD, take, drop, length-append, length-take, length-drop}
 use Rattle.question.specs.Limits.{maxTerms}
-use Rattle.field.specs.Numbers.{bytesOf}
-use Rattle.field.proofs.NumberLaws.{bytes-length}
+use Rattle.number.specs.Numbers.{bytesOf}
+use Rattle.number.proofs.NumberLaws.{bytes-length}
 use Rattle.answer.specs.Bodies.{maskBytes, masksBody}
 use Rattle.answer.proofs.BodyLaws.{body-none, body-more}
 use Rattle.answer.proofs.bodies.mask_body.Statement.{statement}

@@ -8,7 +8,7 @@ use lib.ListN.{length, take, drop, length-set}
 use lib.Seq.{drop-drop}
 use Rattle.question.specs.Limits.{maxTerms}
 use Rattle.outcome.specs.Padded.{padded}
-use Rattle.field.specs.Numbers.{numberIn}
+use Rattle.number.specs.Numbers.{numberIn}
 use Rattle.answer.specs.Bodies.{maskBytes, masksIn}
 use Rattle.answer.proofs.PaddedLaws.{padded-more, padded-none, padded-all}
 use Rattle.answer.proofs.BodyLaws.{in-length, in-at}

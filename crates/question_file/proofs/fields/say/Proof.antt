@@ -10,7 +10,7 @@ use lib.ListN.{drop}
 use Rattle.question_file.specs.declared.fields.Said.the-variants.{Names, Ended}
 use Rattle.question_file.specs.Bodies.{statementOf}
 use Rattle.question_file.specs.Fields.{madeSaid, saidBy}
-use Rattle.question_file.proofs.SaidLaws.{body-byte}
+use Rattle.field.proofs.HeadLaws.{body-byte}
 use Rattle.question_file.proofs.fields.say.Statement.{statement}
 use Rattle.question_file.proofs.fields.say.Tie as tie
 

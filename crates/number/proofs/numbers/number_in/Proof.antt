@@ -6,10 +6,10 @@ use native.Mathlib.Omega.{arith}
 use borrow.Author.Needs.{needs}
 use lib.ListN.{length, getD, take, drop, length-take}
 use lib.Seq.{getD-take}
-use Rattle.field.specs.Numbers.{mostBytes, numberFrom, numberIn}
-use Rattle.field.proofs.NumberLaws.{number-next, number-end, room-for-byte}
-use Rattle.field.proofs.numbers.number_in.Statement.{statement}
-use Rattle.field.proofs.numbers.number_in.Tie as tie
+use Rattle.number.specs.Numbers.{mostBytes, numberFrom, numberIn}
+use Rattle.number.proofs.NumberLaws.{number-next, number-end, room-for-byte}
+use Rattle.number.proofs.numbers.number_in.Statement.{statement}
+use Rattle.number.proofs.numbers.number_in.Tie as tie
 
 abbrev Inv-loop : tie.InvT-loop
 Inv-loop bytes end n₀ i₀ n i = (i ≤ end) × (n < 256 ^ i) × (numberIn (take mostBytes bytes) ≡ numberFrom n (drop i (take mostBytes bytes)))

@@ -6,7 +6,7 @@ use native.Mathlib.Omega.{arith}
 use native.Mathlib.Numerals.{add-one}
 use lib.ListN.{length, getD, take, drop, set, length-set, length-append, length-take, length-drop, drop-of-length-le}
 use lib.Seq.{getD-take, getD-drop, drop-cons, drop-length, drop-set-lt, getD-set-same}
-use Rattle.field.specs.Numbers.{mostBytes, AreBytes, bytesOf, numberFrom, numberIn}
+use Rattle.number.specs.Numbers.{mostBytes, AreBytes, bytesOf, numberFrom, numberIn}
 
 pub bytes-length : (w n : ℕ) → length (bytesOf w n) ≡ w
 unfolding bytesOf

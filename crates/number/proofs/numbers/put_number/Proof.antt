@@ -6,10 +6,10 @@ use mathlib.Core.List.{_++_}
 use native.Mathlib.Omega.{arith}
 use borrow.Author.Needs.{needs}
 use lib.ListN.{length, drop, length-set}
-use Rattle.field.specs.Numbers.{bytesOf}
-use Rattle.field.proofs.NumberLaws.{bytes-start, bytes-next, bytes-end}
-use Rattle.field.proofs.numbers.put_number.Statement.{statement}
-use Rattle.field.proofs.numbers.put_number.Tie as tie
+use Rattle.number.specs.Numbers.{bytesOf}
+use Rattle.number.proofs.NumberLaws.{bytes-start, bytes-next, bytes-end}
+use Rattle.number.proofs.numbers.put_number.Statement.{statement}
+use Rattle.number.proofs.numbers.put_number.Tie as tie
 
 abbrev Inv-loop : tie.InvT-loop
 Inv-loop n buf₀ rest₀ i₀ buf rest i = (i ≤ length buf₀) × (length buf ≡ length buf₀) × (bytesOf (length buf₀) n ≡ bytesOf i rest ++ drop i buf)

@@ -2,7 +2,7 @@
 ghost use mathlib.Core.Path.{_≡_};
 ghost use Prim.Native.Nat.{min};
 ghost use lib.ListN.{length, take};
-ghost use Rattle.field.specs.Numbers.{mostBytes, bytesOf, numberIn};
+ghost use Rattle.number.specs.Numbers.{mostBytes, bytesOf, numberIn};
 
 const MOST_BYTES: usize = 8;
 
