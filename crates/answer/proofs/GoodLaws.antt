@@ -8,6 +8,7 @@ use native.Mathlib.Omega.{arith}
 use borrow.Author.Tests.{leb-true}
 use lib.Dec.{leb}
 use lib.ListN.{length, take, length-take}
+use Rattle.question.proofs.TestLaws.{both-true}
 use Rattle.theory.specs.Arrangements.{MayFollow, classes}
 use Rattle.theory.specs.Solutions.{Solution}
 use Rattle.theory.proofs.ArrangementLaws.{classes-few as few-classes}
@@ -21,16 +22,12 @@ use Rattle.answer.specs.Answers.{saidBy, said}
 use Rattle.answer.specs.Checks.{mayFollow, isArrangement, classCount, allBelow, isGood, classesIn, answerCheck}
 use Rattle.answer.proofs.AnswerLaws.{said-none}
 
-pub and-true : (a b : Bool) → (a && b) ≡ true → (a ≡ true) × (b ≡ true)
-and-true true b e = (refl, e)
-and-true false b e = never cc
-
 -- class numbers that pass the test follow the rule
 pub follows : (used : ℕ) (l : List ℕ) → mayFollow used l ≡ true → MayFollow used l
 unfolding mayFollow
 follows used [] e = tt
 follows used (c ∷ l) e =
-    let b = and-true (leb c used) (mayFollow (max used (suc c)) l) e in
+    let b = both-true (leb c used) (mayFollow (max used (suc c)) l) e in
     (leb-true c used (b .0), follows (max used (suc c)) l (b .1))
 
 module _ (l : List ℕ) where
@@ -95,4 +92,4 @@ good-few bound T a e = go (a .verdict) e
     go Impossible e = omega arith
     go Possible e =
         let l = take T (a .arrangement) in
-        omega (arith, classes-few l (and-true (isArrangement l) _ e .0), length-take T (a .arrangement))
+        omega (arith, classes-few l (both-true (isArrangement l) _ e .0), length-take T (a .arrangement))

@@ -9,6 +9,7 @@ use borrow.Author.Tests.{ltb-true, le-leb, lt-ltb}
 use lib.Dec.{ltb}
 use lib.ListN.{length, getD, take}
 use lib.Seq.{length-take-le}
+use Rattle.question.proofs.TestLaws.{both-true}
 use Rattle.question.specs.Limits.{maxTerms}
 use Rattle.outcome.specs.Padded.{padded}
 use Rattle.theory.specs.Arrangements.{MayFollow, classes}
@@ -19,7 +20,7 @@ use Rattle.answer.specs.declared.answers.Answer.{Answer}
 use Rattle.answer.specs.Answers.{saidBy, said, asAnswer, HasTwelve, IsArranged, MaySay}
 use Rattle.answer.specs.Checks.{mayFollow, isArrangement, allBelow, isGood}
 use Rattle.answer.proofs.PaddedLaws.{padded-length, take-padded}
-use Rattle.answer.proofs.GoodLaws.{and-true, follows, classes-few}
+use Rattle.answer.proofs.GoodLaws.{follows, classes-few}
 
 follow-tested : (used : ℕ) (l : List ℕ) → MayFollow used l → mayFollow used l ≡ true
 unfolding mayFollow
@@ -29,8 +30,8 @@ follow-tested used (c ∷ l) f = rw (le-leb c used (f .0), follow-tested (max us
 below : (bound : ℕ) (ms : List ℕ) → allBelow bound ms ≡ true → (k : ℕ) → k < length ms → getD ms k 0 < bound
 unfolding allBelow
 below bound [] e k h = absurd (omega arith)
-below bound (m ∷ ms) e zero h = ltb-true m bound (and-true (ltb m bound) (allBelow bound ms) e .0)
-below bound (m ∷ ms) e (suc k) h = below bound ms (and-true (ltb m bound) (allBelow bound ms) e .1) k (omega arith)
+below bound (m ∷ ms) e zero h = ltb-true m bound (both-true (ltb m bound) (allBelow bound ms) e .0)
+below bound (m ∷ ms) e (suc k) h = below bound ms (both-true (ltb m bound) (allBelow bound ms) e .1) k (omega arith)
 
 below-tested : (bound : ℕ) (ms : List ℕ) → ((k : ℕ) → k < length ms → getD ms k 0 < bound) → allBelow bound ms ≡ true
 unfolding allBelow
@@ -78,6 +79,6 @@ module _ (T bound : ℕ) where
       go Impossible e = tt
       go Possible e =
           let l = take T (a .arrangement) in
-          let b = and-true (isArrangement l) _ e in
+          let b = both-true (isArrangement l) _ e in
           let size : length l ≡ T = length-take-le T (a .arrangement) (omega (arith, twelve .0)) in
           arranged l (take (classes l) (a .masks)) (b .0) (b .1) size (length-take-le (classes l) (a .masks) (omega (arith, twelve .1, classes-few l (b .0))))

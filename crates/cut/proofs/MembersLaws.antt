@@ -14,8 +14,8 @@ use borrow.Author.Tests.{eq-eqb, ne-eqb}
 use Rattle.question.specs.Masks.{bit}
 use Rattle.question.proofs.TestLaws.{same-test}
 use Rattle.theory.specs.Arrangements.{inClass}
-use Rattle.theory.proofs.BitLaws.{flag, ofBits, ofBits-below, ofBits-bit, bit-past, bit-alone}
-use Rattle.mask.proofs.BitLaws.{or-left, or-other}
+use Rattle.theory.proofs.BitLaws.{flag, ofBits, ofBits-below, ofBits-bit}
+use Rattle.question.proofs.BitLaws.{bit-past, bit-alone, or-left, or-other}
 use Rattle.cut.specs.Members.{members}
 
 -- a set with one term more has that bit more alone

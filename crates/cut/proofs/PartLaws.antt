@@ -18,7 +18,7 @@ use Rattle.theory.specs.Classes.{meetsRow, leastMask}
 use Rattle.theory.proofs.MaskLaws.{no-model}
 use Rattle.theory.proofs.ListLaws.{every-both, all-every, every-all}
 use Rattle.theory.proofs.ClassLaws.{LeastIs, leastMask-is}
-use Rattle.mask.proofs.BitLaws.{only-bit, or-right}
+use Rattle.question.proofs.BitLaws.{only-bit, or-right}
 use Rattle.cut.specs.Asked.{askedKnown, allAskedKnown}
 use Rattle.cut.specs.Families.{Family}
 use Rattle.cut.specs.Standings.{Part, NonePart}

@@ -17,10 +17,9 @@ use Rattle.question.proofs.TestLaws.{T-true, true-T}
 use Rattle.theory.specs.Arrangements.{classes, classOf, inClass}
 use Rattle.theory.specs.Rules.{Row}
 use Rattle.theory.specs.FirstModels.{modelOf}
-use Rattle.theory.proofs.BitLaws.{bit-alone}
+use Rattle.question.proofs.BitLaws.{bit-alone, only-bit}
 use Rattle.theory.proofs.ArrangementLaws.{class-below, classes-append, classes-grow}
 use Rattle.theory.proofs.SearchLaws.{firstPlacing-none}
-use Rattle.mask.proofs.BitLaws.{only-bit}
 use Rattle.cut.specs.Members.{members}
 use Rattle.cut.specs.Behind.{foundBehind}
 use Rattle.cut.specs.Standings.{Part, Stand, NoneStands}

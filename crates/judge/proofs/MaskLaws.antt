@@ -1,21 +1,16 @@
--- Bits past the width of a mask, and the bound on a mask as a shift.
+-- The bound on a mask past its width, and as a shift.
 use Prim.Native.Nat.{ℕ, _*_, _/_, _^_, _≤_, _<_}
 use mathlib.Core.Path.{_≡_}
-use mathlib.Core.Bool.{false}
 use native.Mathlib.Omega.{arith}
 use native.Mathlib.Nat.{div-eq-of-lt, div-lt-iff-lt-mul, lt-of-lt-of-le}
 use native.Mathlib.Decide.{decLt}
 use borrow.Author.Tests.{lt-ltb, le-ltb, ne-eqb}
 use lib.Dec.{eqb, ltb}
 use lib.Pow.{pow-pos, pow-mono}
-use Rattle.question.specs.Masks.{bit}
 
 -- a mask of 32 bits is below any higher power
 pub mask-below : (m x : ℕ) → m < 2 ^ 32 → 32 ≤ x → m < 2 ^ x
 mask-below m x small h = lt-of-lt-of-le small (pow-mono h)
-
-pub bit-high : (m x : ℕ) → m < 2 ^ 32 → 32 ≤ x → bit m x ≡ false
-bit-high m x small h = rw (div-eq-of-lt (mask-below m x small h))
 
 pub below-shifts : (m s : ℕ) → eqb (m / 2 ^ s) 0 ≡ ltb m (2 ^ s)
 below-shifts m s = go (decLt m (2 ^ s))

@@ -10,10 +10,13 @@ ghost use lib.ListN.{getD};
 ghost use Rattle.question.specs.Masks.{bit};
 ghost use Rattle.judge.specs.Models.{assigned, elementsInside, masksInside, isModel};
 
+// How many element names there can be.
+const NAMES: usize = Question::MAX_ELEMENTS as usize;
+
 pub struct Model {
     pub size: usize,
-    pub elements: [u8; 8],
-    pub masks: [u32; 12],
+    pub elements: [u8; NAMES],
+    pub masks: [u32; Question::MAX_TERMS],
 }
 
 // The domain element of a name; names past the table have element 0.
@@ -21,7 +24,7 @@ pub(crate) fn element(m: Model, a: ElementName) -> usize
     ensures { λ r. ⌜ r ≡ assigned m .element a ⌝ }
 {
     let i = a.0 as usize;
-    if i < 8 {
+    if i < NAMES {
         let d = m.elements[i];
         return d as usize;
     }
@@ -32,7 +35,7 @@ pub(crate) fn element(m: Model, a: ElementName) -> usize
 fn mask(m: Model, d: usize) -> u32
     ensures { λ r. ⌜ r ≡ getD (m .masks) d 0 ⌝ }
 {
-    if d < 12 {
+    if d < Question::MAX_TERMS {
         return m.masks[d];
     }
     0

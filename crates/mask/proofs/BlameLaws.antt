@@ -10,7 +10,7 @@ use Rattle.question.specs.Masks.{bit}
 use Rattle.theory.specs.Sets.{Test, IsSame, IsNotSame, IsIn, IsNotIn, ExactlyIfIn, ExactlyIfNotIn, ExactlyIfSame, ExactlyIfOr, ExactlyIfAnd, ExactlyIfAndNot, fits}
 use Rattle.mask.specs.Reasons.{Agrees, Decided}
 use Rattle.mask.specs.Blames.{twoOrThree, blamed}
-use Rattle.mask.proofs.BitLaws.{only-bit, or-left, or-right}
+use Rattle.question.proofs.BitLaws.{only-bit, or-left, or-right}
 
 -- a mask w that agrees with m on the bits c
 module _ (m w : ℕ) where

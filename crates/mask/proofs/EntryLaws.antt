@@ -12,7 +12,7 @@ use lib.Bits.{bitAnd, and-le-l}
 use lib.Dec.{eqb}
 use lib.Pow.{pow-pos, high, low}
 use Rattle.question.specs.Masks.{bit}
-use Rattle.question.proofs.TestLaws.{same-test}
+use Rattle.question.proofs.TestLaws.{same-test, both-true}
 use Rattle.theory.specs.Rules.{Row, row}
 use Rattle.theory.specs.Sets.{Test, fits}
 use Rattle.theory.specs.Solutions.{allRows}
@@ -20,8 +20,9 @@ use Rattle.row.specs.Rows.{rowOf}
 use Rattle.mask.specs.Least.{meetsRow}
 use Rattle.mask.specs.Lowest.{lowestSet}
 use Rattle.mask.specs.Entries.{termRoom, rowWidth, entryOf, rowIn, testIn, termsIn, rowsFor, rowsOfEntry}
-use Rattle.mask.specs.Tests.{isAsked}
-use Rattle.mask.proofs.BitLaws.{both-true, bit-and, bit-both, bit-of-zero, some-bit}
+use Rattle.mask.specs.Meetings.{isAsked}
+use Rattle.question.proofs.BitLaws.{bit-and, bit-both, bit-of-zero}
+use Rattle.mask.proofs.BitLaws.{some-bit}
 
 -- an entry that is made has the row, and the terms that there is room for
 module _ (n terms : ℕ) (word : n < 2 ^ rowWidth) where

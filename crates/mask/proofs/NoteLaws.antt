@@ -1,5 +1,5 @@
 -- Notes of entries: what holds of them at the start and after each note, and that a mask meets all entries before those that ask a bit which was raised or cleared.
-use Prim.Native.Nat.{ℕ, zero, suc, _+_, _^_, _≤_, _<_}
+use Prim.Native.Nat.{ℕ, zero, suc, _+_, _≤_, _<_}
 use mathlib.Core.Path.{_≡_, refl, sym, ap, subst, _∙_}
 use mathlib.Core.Logic.{_≢_}
 use mathlib.Core.Bool.{false}
@@ -13,7 +13,7 @@ use lib.Seq.{getD-set-same, getD-set-other}
 use Rattle.question.specs.Masks.{bit}
 use Rattle.mask.specs.Entries.{testIn, termsIn}
 use Rattle.mask.specs.Lowest.{lowestSet, SameFrom}
-use Rattle.mask.specs.Notes.{EntryAsksFrom, Notes, Noted, NotesBefore}
+use Rattle.mask.specs.Notes.{EntryAsksFrom, noteBound, Notes, Noted, NotesBefore}
 use Rattle.mask.specs.Reasons.{raised}
 use Rattle.mask.proofs.RaisedLaws.{raised-above}
 use Rattle.mask.proofs.BitLaws.{bit-clear}
@@ -27,7 +27,7 @@ at-most zero v y = omega arith
 at-most (suc n) v zero = omega arith
 at-most (suc n) v (suc y) = at-most n v y
 
-pub notes-start : (n v bits : ℕ) → v < 2 ^ 16 → Notes bits (replicate n v)
+pub notes-start : (n v bits : ℕ) → v < noteBound → Notes bits (replicate n v)
 notes-start n v bits h = record { falling = λ x y l k. falls n x y l; small = λ x. omega (arith, at-most n v x) }
   where
     falls : (n x y : ℕ) → x ≤ y → getD (replicate n v) y 0 ≤ getD (replicate n v) x 0

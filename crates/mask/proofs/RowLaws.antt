@@ -6,7 +6,7 @@ use lib.ListN.{List·getD-eq-default}
 use Rattle.theory.specs.Sets.{IsSame, testsOf, testOf}
 use Rattle.row.specs.Parts.{partsOf}
 use Rattle.row.proofs.KindLaws.{NoneOf, none-of}
-use Rattle.mask.specs.Tests.{PlacesAreBits}
+use Rattle.mask.specs.Meetings.{PlacesAreBits}
 
 -- the parts of any number have places that are bits
 pub places-are-bits : (n : ℕ) → PlacesAreBits (partsOf n)

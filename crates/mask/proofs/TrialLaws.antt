@@ -14,7 +14,8 @@ use Rattle.mask.specs.declared.trials.Trial.the-variants.{Next, Over}
 use Rattle.mask.specs.Reasons.{Decided, Reasons, raised}
 use Rattle.mask.specs.Trials.{IsOfNoUse, reasonAt, HasReasons, IsDecided, TrialIs}
 use Rattle.mask.proofs.ReasonLaws.{decided-pass, decided-resolve, reasons-next, decided-over}
-use Rattle.mask.proofs.BitLaws.{bit-set, bit-clear, or-left, or-right}
+use Rattle.question.proofs.BitLaws.{or-left, or-right}
+use Rattle.mask.proofs.BitLaws.{bit-set, bit-clear}
 
 base : 1 < 2
 base = omega arith

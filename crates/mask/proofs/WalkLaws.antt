@@ -14,7 +14,7 @@ use Rattle.theory.specs.Solutions.{allRows}
 use Rattle.theory.proofs.ListLaws.{all-append}
 use Rattle.mask.specs.Least.{meetsRow}
 use Rattle.mask.specs.Entries.{testIn, termsIn, rowsOfEntry, rowsOfEntries}
-use Rattle.mask.specs.Tests.{meetsEntry}
+use Rattle.mask.specs.Meetings.{meetsEntry}
 use Rattle.mask.specs.Reasons.{Agrees}
 use Rattle.mask.specs.Blames.{blamed}
 use Rattle.mask.specs.Trials.{IsDecided}

@@ -2,7 +2,7 @@
 pub mod Least
 pub mod Lowest
 pub mod Entries
-pub mod Tests
+pub mod Meetings
 pub mod Notes
 pub mod Reasons
 pub mod Blames

@@ -4,8 +4,8 @@ mod blames;
 mod entries;
 mod lowest;
 mod masks;
+mod meetings;
 mod notes;
-mod tests;
 mod trials;
 
 pub use entries::entry_of;

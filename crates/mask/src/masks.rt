@@ -2,9 +2,9 @@
 use crate::bits::raise;
 use crate::blames::blame;
 use crate::entries::row_in;
+use crate::meetings::meets;
 use crate::notes::back_to;
 use crate::notes::note_up_to;
-use crate::tests::meets;
 use crate::trials::Trial;
 use crate::trials::next_mask;
 ghost use mathlib.Core.Path.{_≡_};

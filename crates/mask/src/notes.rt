@@ -1,10 +1,10 @@
 // Notes of the entries that a walk has passed: for each bit of a mask the first that asks this bit or one below. So the walk of the next mask need not start at the first entry.
 use crate::entries::row_in;
 use crate::lowest::lowest_set;
-use crate::tests::is_asked;
+use crate::meetings::is_asked;
 ghost use Prim.Native.Nat.{_^_, _≤_, _<_};
 ghost use lib.ListN.{length, getD};
-ghost use Rattle.mask.specs.Notes.{Notes, Noted, NotesBefore};
+ghost use Rattle.mask.specs.Notes.{noteBound, Notes, Noted, NotesBefore};
 
 // The entry i asks bits from `low` on: it is noted for each of them for which no earlier one is. An index that does not fit a note comes after all that is noted.
 fn note(first: &mut [u16; 32], low: u8, i: usize, bits: u8)
@@ -47,7 +47,7 @@ pub(crate) fn note_up_to(
 
 // Where the walk goes on after bit q was raised and those below it cleared: at the entry i, or before it at the first that asks one of these bits.
 pub(crate) fn back_to(first: &[u16; 32], q: u8, i: usize) -> usize
-    requires { ⌜ (q < 32) × (getD (now first) q 0 < 2 ^ 16) ⌝ }
+    requires { ⌜ (q < 32) × (getD (now first) q 0 < noteBound) ⌝ }
     ensures { λ r. ⌜ (r ≤ i) × (r ≤ getD (now (first .entry)) q 0) ⌝ }
 {
     let at = first[q as usize] as usize;

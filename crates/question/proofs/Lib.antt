@@ -1,5 +1,6 @@
 -- Laws that belong to no one function.
 pub mod TestLaws
+pub mod BitLaws
 pub mod StatementsLaws
 pub mod AdmissionLaws
 pub mod CheckLaws

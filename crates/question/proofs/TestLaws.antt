@@ -4,6 +4,7 @@ use mathlib.Core.Path.{_≡_, refl, sym}
 use mathlib.Core.Bool.{Bool, true, false, not, _&&_}
 use borrow.Author.Tests.{eqb-true, eq-eqb}
 use lib.Dec.{T, eqb}
+use Rattle.outcome.proofs.Never.{never}
 
 pub T-true : {b : Bool} → b ≡ true → T b
 T-true e = rw e tt
@@ -30,6 +31,10 @@ and-right false b h = absurd h
 pub and-both : (a b : Bool) → T a → T b → T (a && b)
 and-both true b p q = q
 and-both false b p q = p
+
+pub both-true : (a b : Bool) → (a && b) ≡ true → (a ≡ true) × (b ≡ true)
+both-true true b e = (refl, e)
+both-true false b e = never cc
 
 -- two tests that follow from each other are equal
 pub same-test : (a b : Bool) → (a ≡ true → b ≡ true) → (b ≡ true → a ≡ true) → a ≡ b

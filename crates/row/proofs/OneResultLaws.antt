@@ -3,7 +3,7 @@ use Rattle.outcome.specs.OneResult.{OneResult}
 use Rattle.outcome.proofs.OneLaw.{both}
 use Rattle.row.proofs.parts.pack.Reads as pack
 use Rattle.row.proofs.parts.unpack.Reads as unpack
-use Rattle.row.proofs.tests.same_test.Reads as same-test
+use Rattle.row.proofs.comparisons.same_test.Reads as same-test
 use Rattle.row.proofs.checks.check_rows.Reads as check-rows
 
 pack-one : OneResult pack.Learnt

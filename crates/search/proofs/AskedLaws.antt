@@ -15,7 +15,7 @@ use Rattle.theory.specs.Sets.{Test}
 use Rattle.theory.specs.Solutions.{allRows}
 use Rattle.theory.proofs.ListLaws.{all-append}
 use Rattle.mask.specs.Entries.{testIn, termsIn, rowsOfEntry, rowsOfEntries}
-use Rattle.mask.proofs.BitLaws.{or-left, or-right}
+use Rattle.question.proofs.BitLaws.{or-left, or-right}
 use Rattle.mask.proofs.EntryLaws.{entry-pass}
 use Rattle.cut.specs.Asked.{asks, askedKnown, allAskedKnown}
 use Rattle.cut.proofs.AskedLaws.{known-more}

@@ -10,6 +10,7 @@ use native.Mathlib.Decide.{decLt, ℕ-discrete}
 use lib.Dec.{eqb}
 use lib.ListN.{length, getD, set, replicate, length-set, length-replicate, getD-replicate, List·getD-eq-default}
 use lib.Seq.{getD-set-other, getD-set-same}
+use Rattle.outcome.proofs.Never.{never}
 use Rattle.search.specs.Groups.{groupCount}
 use Rattle.search.specs.Memos.{maskOfGroup, isThere, noted, Memo}
 
@@ -20,7 +21,7 @@ noted-there (some m) = refl
 
 pub not-there : (o : Option ℕ) → isThere o ≡ false → o ≡ none
 not-there none e = refl
-not-there (some m) e = let z : _≡_ {A = ℕ} 0 1 = cc in absurd (omega arith)
+not-there (some m) e = never cc
 
 module _ (entries : List ℕ) (sets : ℕ) where
   -- nothing noted

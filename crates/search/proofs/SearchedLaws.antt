@@ -3,7 +3,7 @@ use Prim.Native.Nat.{ℕ, _^_}
 use mathlib.Core.Path.{_≡_, refl, sym, ap, _∙_}
 use mathlib.Core.List.{List, [], map}
 use mathlib.Core.Option.{Option, none, some}
-use native.Mathlib.Omega.{arith}
+use Rattle.outcome.proofs.Never.{never}
 use Rattle.outcome.specs.declared.refusals.Refusal.{Refusal}
 use Rattle.outcome.specs.declared.checks.Check.{Check}
 use Rattle.outcome.specs.declared.checks.Check.the-variants.{Accepted, Refused}
@@ -62,7 +62,7 @@ module _ (terms sets : ℕ) (rows : List ℕ) where
     possible-worth v = go first refl
       where
         go : (o : Option Solution) → first ≡ o → (sol : Solution) × IsFirstModel fits terms (2 ^ sets) said sol × (searched terms sets rows ≡ answerOf (some sol))
-        go none e = let never : Possible ≡ Impossible = sym v ∙ ap (λ (a : SearchAnswer). a .verdict) (answered ∙ ap answerOf e) in let z : _≡_ {A = ℕ} 0 1 = cc in absurd (omega arith)
+        go none e = let same : Possible ≡ Impossible = sym v ∙ ap (λ (a : SearchAnswer). a .verdict) (answered ∙ ap answerOf e) in never cc
         go (some sol) e = (sol, firstModel-first fits terms (2 ^ sets) said below sol .0 e, answered ∙ ap answerOf e)
 
     -- impossible: there is no solution
@@ -72,4 +72,4 @@ module _ (terms sets : ℕ) (rows : List ℕ) where
       where
         go : (o : Option Solution) → first ≡ o → (sol : Solution) → IsSolution fits terms (2 ^ sets) said sol → ⊥
         go none e = firstModel-none fits terms (2 ^ sets) said below .0 e
-        go (some sol) e = let never : Impossible ≡ Possible = sym v ∙ ap (λ (a : SearchAnswer). a .verdict) (answered ∙ ap answerOf e) in let z : _≡_ {A = ℕ} 0 1 = cc in absurd (omega arith)
+        go (some sol) e = let same : Impossible ≡ Possible = sym v ∙ ap (λ (a : SearchAnswer). a .verdict) (answered ∙ ap answerOf e) in never cc

@@ -4,6 +4,7 @@ use mathlib.Core.Path.{_≡_, refl, sym, ap, _∙_}
 use mathlib.Core.List.{List}
 use mathlib.Core.Option.{Option, none, some}
 use native.Mathlib.Omega.{arith}
+use Rattle.outcome.proofs.Never.{never}
 use Rattle.question.specs.Limits.{maxSets}
 use Rattle.mask.specs.Entries.{rowsOfEntries}
 use Rattle.mask.specs.declared.masks.Smallest.{Smallest}
@@ -13,12 +14,12 @@ use Rattle.mask.specs.Masks.{smallestOf}
 use Rattle.search.specs.Memos.{maskOfGroup}
 
 is-some : (o : Option ℕ) (m : ℕ) → At m ≡ smallestOf o → o ≡ some m
-is-some none m e = let z : _≡_ {A = ℕ} 0 1 = cc in absurd (omega arith)
+is-some none m e = never cc
 is-some (some n) m e = cc
 
 is-none : (o : Option ℕ) → Nothing ≡ smallestOf o → o ≡ none
 is-none none e = refl
-is-none (some n) e = let z : _≡_ {A = ℕ} 0 1 = cc in absurd (omega arith)
+is-none (some n) e = never cc
 
 module _ (entries : List ℕ) (sets group : ℕ) (few : sets ≤ maxSets) (s : Smallest) (found : s ≡ smallestOf (leastMask (2 ^ min sets 32) (rowsOfEntries entries) group)) where
   as-wide : s ≡ smallestOf (maskOfGroup entries sets group)

@@ -11,16 +11,16 @@ pub struct SearchAnswer {
     pub verdict: Verdict,
     // How many classes there are, the class number of each term, and the mask of each class. Entries past the counts are 0.
     pub classes: usize,
-    pub arrangement: [u8; 12],
-    pub masks: [u32; 12],
+    pub arrangement: [u8; Question::MAX_TERMS],
+    pub masks: [u32; Question::MAX_TERMS],
 }
 
 // The answer where there is no model to show.
 pub(crate) fn without_model(outcome: Check, verdict: Verdict) -> SearchAnswer
     ensures { λ r. ⌜ r ≡ withoutModel outcome verdict ⌝ }
 {
-    let arrangement: [u8; 12] = [0; 12];
-    let masks: [u32; 12] = [0; 12];
+    let arrangement: [u8; Question::MAX_TERMS] = [0; Question::MAX_TERMS];
+    let masks: [u32; Question::MAX_TERMS] = [0; Question::MAX_TERMS];
     SearchAnswer {
         outcome: outcome,
         verdict: verdict,

@@ -1,4 +1,5 @@
 // Groups of terms, each a number whose bits are its terms: one term's, and those that stand for classes.
+use question::Question;
 ghost use mathlib.Core.Path.{_≡_};
 ghost use Prim.Native.Nat.{ℕ, _+_, _^_, _≤_, _<_, max};
 ghost use lib.ListN.{getD, take};
@@ -9,7 +10,7 @@ ghost use Rattle.search.specs.Groups.{withTerm, withGroup, GroupsOf};
 
 // Groups that stand for classes: the terms of each, and how many groups there are.
 pub(crate) struct Groups {
-    pub(crate) terms: [u32; 12],
+    pub(crate) terms: [u32; Question::MAX_TERMS],
     pub(crate) count: u8,
 }
 
@@ -69,12 +70,12 @@ pub(crate) fn with_group(groups: Groups, term: usize) -> Groups
 }
 
 // The groups of the classes of a whole arrangement.
-pub(crate) fn groups_of(arrangement: [u8; 12], terms: usize) -> Groups
+pub(crate) fn groups_of(arrangement: [u8; Question::MAX_TERMS], terms: usize) -> Groups
     requires { ⌜ (terms ≤ maxTerms) × ((t : ℕ) → t < terms → getD arrangement t 0 < maxTerms) ⌝ }
     ensures { λ r. ⌜ GroupsOf arrangement terms (r .terms) ⌝ }
     ensures { λ r. ⌜ r .count ≡ classes (take terms arrangement) ⌝ }
 {
-    let none: [u32; 12] = [0; 12];
+    let none: [u32; Question::MAX_TERMS] = [0; Question::MAX_TERMS];
     let mut groups = Groups {
         terms: none,
         count: 0,

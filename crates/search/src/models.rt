@@ -6,6 +6,7 @@ use mask::Smallest;
 use mask::smallest_mask;
 use outcome::Check;
 use outcome::Verdict;
+use question::Question;
 ghost use mathlib.Core.Path.{_≡_};
 ghost use Prim.Native.Nat.{_^_, _≤_};
 ghost use lib.Dec.{T};
@@ -22,7 +23,7 @@ ghost use Rattle.search.specs.Placings.{Placing};
 // The arrangement with those masks, or impossible where a class has none.
 pub(crate) fn model(
     entries: &[u64],
-    arrangement: [u8; 12],
+    arrangement: [u8; Question::MAX_TERMS],
     groups: Groups,
     terms: usize,
     sets: u8,
@@ -35,7 +36,7 @@ pub(crate) fn model(
 {
     let each = groups.terms;
     let count = groups.count as usize;
-    let mut masks: [u32; 12] = [0; 12];
+    let mut masks: [u32; Question::MAX_TERMS] = [0; Question::MAX_TERMS];
     let mut k: usize = 0;
     while k < count {
         let group = each[k];

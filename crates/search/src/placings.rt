@@ -10,6 +10,7 @@ use crate::steps::Fixed;
 use crate::steps::Span;
 use outcome::Check;
 use outcome::Verdict;
+use question::Question;
 ghost use mathlib.Core.Path.{_≡_};
 ghost use lib.Dec.{T};
 ghost use Rattle.theory.specs.Solutions.{allRows};
@@ -26,7 +27,7 @@ pub(crate) fn place(
     entries: &[u64],
     memo: &mut [u8],
     fixed: Fixed,
-    arrangement: [u8; 12],
+    arrangement: [u8; Question::MAX_TERMS],
     groups: Groups,
     unplaced: Span,
 ) -> SearchAnswer

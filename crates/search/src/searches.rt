@@ -17,6 +17,7 @@ use crate::steps::Fixed;
 use crate::steps::Span;
 use outcome::Check;
 use outcome::Verdict;
+use question::Question;
 use row::check_rows;
 ghost use mathlib.Core.Path.{_≡_};
 ghost use mathlib.Core.List.{map};
@@ -37,19 +38,22 @@ ghost use Rattle.search.specs.Answers.{answerOf, searched};
 ghost use Rattle.search.specs.Renamings.{newName};
 ghost use Rattle.search.specs.Placings.{Placing};
 
+// How many groups of terms there are: the memo has a byte for each.
+const GROUPS: usize = 1 << Question::MAX_TERMS;
+
 // Entries of declared rows: at first no term is placed, and the memo says nothing.
 fn search_entries(entries: &[u64], terms: usize, sets: u8) -> SearchAnswer
     requires { ⌜ (terms ≤ maxTerms) × (sets ≤ maxSets) ⌝ }
     requires { ⌜ T (allRows (rowDeclared terms sets) (rowsOfEntries (now entries))) ⌝ }
     ensures { λ r. ⌜ r ≡ answerOf (firstModel fits terms (2 ^ sets) (rowsOfEntries (now (entries .entry)))) ⌝ }
 {
-    let mut memo: [u8; 4096] = [0; 4096];
+    let mut memo: [u8; GROUPS] = [0; GROUPS];
     let fixed = Fixed {
         asked: terms_asked(entries),
         sets: sets,
     };
-    let arrangement: [u8; 12] = [0; 12];
-    let none: [u32; 12] = [0; 12];
+    let arrangement: [u8; Question::MAX_TERMS] = [0; Question::MAX_TERMS];
+    let none: [u32; Question::MAX_TERMS] = [0; Question::MAX_TERMS];
     let groups = Groups {
         terms: none,
         count: 0,
@@ -83,7 +87,7 @@ fn search_renamed(
 fn model_again(
     rows: &[u32],
     table: &mut [u64],
-    arrangement: [u8; 12],
+    arrangement: [u8; Question::MAX_TERMS],
     terms: usize,
     sets: u8,
 ) -> SearchAnswer
@@ -103,7 +107,7 @@ fn search_accepted(rows: &[u32], terms: usize, sets: u8) -> SearchAnswer
     requires { ⌜ rowsChecked terms sets (now rows) ≡ Accepted ⌝ }
     ensures { λ r. ⌜ r ≡ answerOf (firstModel fits terms (2 ^ sets) (map rowOf (now (rows .entry)))) ⌝ }
 {
-    let mut table: [u64; 768] = [0; 768];
+    let mut table: [u64; Question::MAX_ROWS] = [0; Question::MAX_ROWS];
     let to = by_weight(rows, sets);
     let back = back_from(to, sets);
     if !is_renaming(to, back, sets) {

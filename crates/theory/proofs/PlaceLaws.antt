@@ -5,6 +5,7 @@ use mathlib.Core.Bool.{Bool, true, false, not, _&&_, cond}
 use mathlib.Core.List.{List, [], _∷_, map}
 use native.Mathlib.Omega.{arith}
 use lib.Dec.{T, ltb, ltb→lt, lt→ltb}
+use Rattle.outcome.proofs.Never.{never}
 use Rattle.question.specs.declared.statements.Statement.{Statement}
 use Rattle.question.specs.declared.statements.Statement.the-variants.{ElementsEqual, ElementsDiffer, In, NotIn, SetsEqual, SetsDiffer, Empty, Single, Union, Intersection, Difference}
 use Rattle.question.specs.declared.admissions.NameTest.the-variants.{Declared, Undeclared}
@@ -115,7 +116,7 @@ module _ (E S : ℕ) where
       go : (b : Bool) → cond b (leftmost (suc at) (map (declared E S) ns)) (Undeclared at) ≡ Declared →
           (leftmost (suc at) (map (declared E S) ns) ≡ Declared → T (placesDeclared E S (map placeOf ns))) → T (b && placesDeclared E S (map placeOf ns))
       go true e ih = ih e
-      go false e ih = let z : _≡_ {A = ℕ} 0 1 = cc in absurd (omega arith)
+      go false e ih = never cc
 
   places-named : (r : Rule Test) → T (placesDeclared E S (rulePlaces r)) → RuleNamed E Named r
   places-named (OneTerm a t) h = (ltb→lt a E (and-left (ltb a E) (placesDeclared E S (placesOf t)) h), and-right (ltb a E) (placesDeclared E S (placesOf t)) h)

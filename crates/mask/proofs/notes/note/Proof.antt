@@ -1,8 +1,9 @@
 -- `note` goes up from bit to bit as long as a larger index stands: it falls, so from there on none does.
-use Prim.Native.Nat.{_-_, _^_, _<_}
+use Prim.Native.Nat.{_-_, _<_}
 use native.Mathlib.Omega.{arith}
 use borrow.Author.Needs.{needs}
 use lib.ListN.{getD}
+use Rattle.mask.specs.Notes.{noteBound}
 use Rattle.mask.proofs.NoteLaws.{Noting, noting-start, noting-turn, noting-end}
 use Rattle.mask.proofs.notes.note.Statement.{statement}
 use Rattle.mask.proofs.notes.note.Tie as tie
@@ -14,7 +15,7 @@ abbrev μ-loop : tie.MeasureT-loop
 μ-loop first₀ low i bits q₀ first q = bits - q
 
 -- the index at q is as it was, so it is small
-small : (c : tie.In-loop Inv-loop μ-loop) → getD (c .before .loop .first) (c .before .loop .q) 0 < 2 ^ 16
+small : (c : tie.In-loop Inv-loop μ-loop) → getD (c .before .loop .first) (c .before .loop .q) 0 < noteBound
 small c = rw (c .before .loop .inv .above (c .before .loop .q) (omega arith)) (c .before .before .pre .1 .small (c .before .loop .q))
 
 returns : tie.Need-returns Inv-loop μ-loop

@@ -1,7 +1,7 @@
 // Which rows have one test.
 use crate::parts::RowParts;
 ghost use mathlib.Core.Path.{_≡_};
-ghost use Rattle.row.specs.Tests.{sameTest};
+ghost use Rattle.row.specs.Comparisons.{sameTest};
 
 // Do two rows have one test: all their bits but those of the term.
 pub fn same_test(a: u32, b: u32) -> bool

@@ -1,9 +1,9 @@
 -- `same_test` compares the bits from the kind on and those of the places.
 use mathlib.Core.Path.{refl}
 use borrow.Author.Needs.{needs}
-use Rattle.row.specs.Tests.{sameTest}
-use Rattle.row.proofs.tests.same_test.Statement.{statement}
-use Rattle.row.proofs.tests.same_test.Tie as tie
+use Rattle.row.specs.Comparisons.{sameTest}
+use Rattle.row.proofs.comparisons.same_test.Statement.{statement}
+use Rattle.row.proofs.comparisons.same_test.Tie as tie
 
 returns : tie.Need-returns
 unfolding sameTest

@@ -7,8 +7,8 @@ use Rattle.theory.specs.Sets.{fits}
 use Rattle.row.specs.Rows.{rowOfParts, rowOf}
 use Rattle.mask.proofs.RowLaws.{places-are-bits}
 use Rattle.mask.proofs.EntryLaws.{not-asked, asked, entry-apart, entry-meets}
-use Rattle.mask.proofs.tests.meets.Statement.{statement}
-use Rattle.mask.proofs.tests.meets.Tie as tie
+use Rattle.mask.proofs.meetings.meets.Statement.{statement}
+use Rattle.mask.proofs.meetings.meets.Tie as tie
 
 returns : tie.Need-returns
 returns c =

@@ -8,7 +8,7 @@ ghost use mathlib.Core.Path.{_≡_};
 ghost use Rattle.question.specs.Masks.{bit as hasBit};
 ghost use Rattle.theory.specs.Sets.{fits};
 ghost use Rattle.row.specs.Rows.{rowOfParts};
-ghost use Rattle.mask.specs.Tests.{isAsked, meetsEntry, PlacesAreBits};
+ghost use Rattle.mask.specs.Meetings.{isAsked, meetsEntry, PlacesAreBits};
 
 // Does a class with the mask m pass the row's test.
 fn passes(p: RowParts, class: u32, m: u32) -> bool

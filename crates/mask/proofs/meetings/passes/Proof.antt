@@ -1,8 +1,8 @@
 -- `passes` tests by the kind of the row: an arm for each, and the last for kinds that document 01 does not list.
 use borrow.Author.Needs.{needs}
 use Rattle.mask.proofs.RowLaws.{past-kinds}
-use Rattle.mask.proofs.tests.passes.Statement.{statement}
-use Rattle.mask.proofs.tests.passes.Tie as tie
+use Rattle.mask.proofs.meetings.passes.Statement.{statement}
+use Rattle.mask.proofs.meetings.passes.Tie as tie
 
 returns : tie.Need-returns
 returns c = rw (c .match .keys1, c .before .before .bit4 .ensures)
