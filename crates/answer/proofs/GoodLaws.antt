@@ -8,7 +8,7 @@ use native.Mathlib.Omega.{arith}
 use borrow.Author.Tests.{leb-true}
 use lib.Dec.{leb}
 use lib.ListN.{length, take, length-take}
-use Rattle.question.proofs.TestLaws.{both-true}
+use Rattle.statement.proofs.TestLaws.{both-true}
 use Rattle.theory.specs.Arrangements.{MayFollow, classes}
 use Rattle.theory.specs.Solutions.{Solution}
 use Rattle.theory.proofs.ArrangementLaws.{classes-few as few-classes}

@@ -9,7 +9,7 @@ use borrow.Author.Tests.{ltb-true, le-leb, lt-ltb}
 use lib.Dec.{ltb}
 use lib.ListN.{length, getD, take}
 use lib.Seq.{length-take-le}
-use Rattle.question.proofs.TestLaws.{both-true}
+use Rattle.statement.proofs.TestLaws.{both-true}
 use Rattle.question.specs.Limits.{maxTerms}
 use Rattle.outcome.specs.Padded.{padded}
 use Rattle.theory.specs.Arrangements.{MayFollow, classes}

@@ -1,9 +1,9 @@
 // A table as it may be handed in, of any bytes: E, S, the count, then four bytes a statement, its tag and its names.
-use question::ElementName;
 use question::Question;
 use question::Record;
-use question::SetName;
-use question::Statement;
+use statement::ElementName;
+use statement::SetName;
+use statement::Statement;
 
 fn statement(tag: u8, a: u8, b: u8, c: u8) -> Statement {
     match tag {

@@ -1,8 +1,8 @@
 // What statements mean, straight from document 01: an assignment, and the test whether a statement holds in it.
-use question::ElementName;
 use question::Question;
-use question::SetName;
-use question::Statement;
+use statement::ElementName;
+use statement::SetName;
+use statement::Statement;
 
 // The domain element of each element name, and the part of each set name: bit d says that domain element d is in it.
 pub struct Assignment {

@@ -1,12 +1,12 @@
 // Questions drawn at random from a seed: at most three element names, four set names and ten statements, two of them x ≠ y.
 use crate::comparing::Tally;
 use crate::comparing::compare;
-use question::ElementName;
 use question::Question;
 use question::Record;
-use question::SetName;
-use question::Statement;
-use question::witness_of;
+use statement::ElementName;
+use statement::SetName;
+use statement::Statement;
+use statement::witness_of;
 
 const QUESTIONS: u64 = 20000;
 

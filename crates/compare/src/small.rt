@@ -2,12 +2,12 @@
 use crate::comparing::Tally;
 use crate::comparing::compare;
 use outcome::Check;
-use question::ElementName;
 use question::Question;
 use question::Record;
-use question::SetName;
-use question::Statement;
 use question::check;
+use statement::ElementName;
+use statement::SetName;
+use statement::Statement;
 
 // The statements over two names of each sort.
 const STATEMENTS: u64 = 54;

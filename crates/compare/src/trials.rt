@@ -13,7 +13,7 @@ use crate::orders::order_of;
 use crate::patterns::different;
 use crate::patterns::pattern;
 use question::Question;
-use question::Statement;
+use statement::Statement;
 
 // Is there a part for each set name from `place` on, in the order given, so that every statement holds. The set names
 // in `known` have theirs, and `whole` is the domain as a part.

@@ -9,7 +9,7 @@ use native.Mathlib.Decide.{decLt}
 use borrow.Author.Tests.{eqb-true}
 use lib.Dec.{T, eqb, ltb, ltb→lt, lt→ltb}
 use Rattle.question.specs.Masks.{bit}
-use Rattle.question.proofs.TestLaws.{true-T, and-left, and-right, and-both}
+use Rattle.statement.proofs.TestLaws.{true-T, and-left, and-right, and-both}
 use Rattle.theory.specs.Lists.{allOf, Every}
 use Rattle.theory.specs.Rules.{Row}
 use Rattle.theory.proofs.ListLaws.{every-map, every-both, all-every, every-all, all-map}

@@ -12,7 +12,7 @@ use lib.Dec.{T, eqb}
 use lib.ListN.{length, List·getD-append}
 use borrow.Author.Tests.{eq-eqb, ne-eqb}
 use Rattle.question.specs.Masks.{bit}
-use Rattle.question.proofs.TestLaws.{same-test}
+use Rattle.statement.proofs.TestLaws.{same-test}
 use Rattle.theory.specs.Arrangements.{inClass}
 use Rattle.theory.proofs.BitLaws.{flag, ofBits, ofBits-below, ofBits-bit}
 use Rattle.question.proofs.BitLaws.{bit-past, bit-alone, or-left, or-other}

@@ -9,7 +9,7 @@ use native.Mathlib.Decide.{ℕ-discrete}
 use lib.Bits.{bitOr}
 use lib.Dec.{T}
 use Rattle.question.specs.Masks.{bit}
-use Rattle.question.proofs.TestLaws.{T-true, true-T, same-test}
+use Rattle.statement.proofs.TestLaws.{T-true, true-T, same-test}
 use Rattle.theory.specs.Arrangements.{inClass}
 use Rattle.theory.specs.Rules.{Row}
 use Rattle.theory.specs.FirstModels.{serves, modelOf}

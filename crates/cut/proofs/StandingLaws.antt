@@ -13,7 +13,7 @@ use lib.Dec.{T, eqb}
 use lib.ListN.{length, getD, set, length-append, List·getD-append}
 use lib.Seq.{getD-set-same, getD-set-other}
 use Rattle.question.specs.Masks.{bit}
-use Rattle.question.proofs.TestLaws.{T-true, true-T}
+use Rattle.statement.proofs.TestLaws.{T-true, true-T}
 use Rattle.theory.specs.Arrangements.{classes, classOf, inClass}
 use Rattle.theory.specs.Rules.{Row}
 use Rattle.theory.specs.FirstModels.{modelOf}

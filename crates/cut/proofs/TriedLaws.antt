@@ -10,7 +10,7 @@ use native.Mathlib.Decide.{decLt}
 use lib.Bits.{bitOr}
 use lib.Dec.{T}
 use lib.ListN.{length, getD, set}
-use Rattle.question.proofs.TestLaws.{T-true}
+use Rattle.statement.proofs.TestLaws.{T-true}
 use Rattle.theory.specs.Arrangements.{classOf, inClass}
 use Rattle.theory.specs.Rules.{Row}
 use Rattle.theory.specs.FirstModels.{modelOf}

@@ -7,7 +7,7 @@ use mathlib.Core.Logic.{_↔_}
 use native.Mathlib.Omega.{arith}
 use lib.Dec.{T, leb, ltb, ltb→lt}
 use lib.ListN.{length, getD}
-use Rattle.question.specs.declared.statements.Statement.{Statement}
+use Rattle.statement.specs.declared.statements.Statement.{Statement}
 use Rattle.question.specs.declared.questions.Question.{Question}
 use Rattle.outcome.specs.declared.checks.Check.{Check}
 use Rattle.outcome.specs.declared.checks.Check.the-variants.{Accepted, Refused as TableRefused}
@@ -16,10 +16,10 @@ use Rattle.question.specs.Limits.{maxTerms}
 use Rattle.outcome.specs.Refusals.{refusal, badModel}
 use Rattle.question.specs.Questions.{idle, statements}
 use Rattle.question.specs.Checks.{checked, IsAccepted}
-use Rattle.question.specs.Meaning.{Assignment, IsAssignment, everywhere, holds, AllHold}
+use Rattle.statement.specs.Meaning.{Assignment, IsAssignment, everywhere, holds, AllHold}
 use Rattle.question.proofs.AcceptedLaws.{accepted}
-use Rattle.question.proofs.TestLaws.{T-true, and-left, and-right}
-use Rattle.question.proofs.EverywhereLaws.{everywhere-at}
+use Rattle.statement.proofs.TestLaws.{T-true, and-left, and-right}
+use Rattle.statement.proofs.EverywhereLaws.{everywhere-at}
 use Rattle.judge.specs.declared.models.Model.{Model}
 use Rattle.judge.specs.declared.judging.Judgement.the-variants.{Yes, No, Refused}
 use Rattle.judge.specs.Models.{assigned, elementsInside, masksInside, isModel}

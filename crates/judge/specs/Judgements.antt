@@ -2,13 +2,13 @@
 use Prim.Native.Nat.{ℕ, suc}
 use mathlib.Core.Bool.{Bool, cond}
 use mathlib.Core.List.{List, [], _∷_}
-use Rattle.question.specs.declared.statements.Statement.{Statement}
+use Rattle.statement.specs.declared.statements.Statement.{Statement}
 use Rattle.question.specs.declared.questions.Question.{Question}
 use Rattle.outcome.specs.Refusals.{refusal, badModel}
 use Rattle.outcome.specs.Checks.{acceptedThen}
 use Rattle.question.specs.Questions.{statements}
 use Rattle.question.specs.Checks.{checked}
-use Rattle.question.specs.Meaning.{holds}
+use Rattle.statement.specs.Meaning.{holds}
 use Rattle.judge.specs.declared.models.Model.{Model}
 use Rattle.judge.specs.declared.judging.Judgement.{Judgement}
 use Rattle.judge.specs.declared.judging.Judgement.the-variants.{Yes, No, Refused}

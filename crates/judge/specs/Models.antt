@@ -5,7 +5,7 @@ use lib.Dec.{leb, ltb}
 use lib.ListN.{getD}
 use Rattle.question.specs.Limits.{maxTerms}
 use Rattle.question.specs.Masks.{bit}
-use Rattle.question.specs.Meaning.{Assignment, everywhere}
+use Rattle.statement.specs.Meaning.{Assignment, everywhere}
 use Rattle.judge.specs.declared.models.Model.{Model}
 
 -- the assignment that a model is: a domain element is in the set x if its mask has bit x

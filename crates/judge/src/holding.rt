@@ -2,9 +2,9 @@
 use crate::models::Model;
 use crate::models::element;
 use crate::models::is_in;
-use question::Statement;
+use statement::Statement;
 ghost use mathlib.Core.Path.{_≡_};
-ghost use Rattle.question.specs.Meaning.{everywhere, holds};
+ghost use Rattle.statement.specs.Meaning.{everywhere, holds};
 ghost use Rattle.judge.specs.Models.{assigned};
 ghost use Rattle.judge.specs.Elements.{atElement};
 

@@ -10,7 +10,7 @@ ghost use mathlib.Core.Path.{_≡_};
 ghost use Prim.Native.Nat.{_≤_};
 ghost use Rattle.question.specs.Limits.{maxStatements};
 ghost use Rattle.question.specs.Questions.{statements};
-ghost use Rattle.question.specs.Meaning.{holds};
+ghost use Rattle.statement.specs.Meaning.{holds};
 ghost use Rattle.judge.specs.Models.{assigned};
 ghost use Rattle.judge.specs.Judgements.{firstFailing, modelJudged, judged};
 

@@ -1,8 +1,8 @@
 // A model: a domain of n elements, the element of each element name, and for each domain element the mask of the sets it is in.
 // Elements past the names and masks past the domain are ignored.
-use question::ElementName;
 use question::Question;
-use question::SetName;
+use statement::ElementName;
+use statement::SetName;
 ghost use mathlib.Core.Path.{_≡_};
 ghost use Prim.Native.Nat.{_^_};
 ghost use lib.Dec.{ltb};

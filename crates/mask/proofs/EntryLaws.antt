@@ -12,7 +12,7 @@ use lib.Bits.{bitAnd, and-le-l}
 use lib.Dec.{eqb}
 use lib.Pow.{pow-pos, high, low}
 use Rattle.question.specs.Masks.{bit}
-use Rattle.question.proofs.TestLaws.{same-test, both-true}
+use Rattle.statement.proofs.TestLaws.{same-test, both-true}
 use Rattle.theory.specs.Rules.{Row, row}
 use Rattle.theory.specs.Sets.{Test, fits}
 use Rattle.theory.specs.Solutions.{allRows}

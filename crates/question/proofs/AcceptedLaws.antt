@@ -7,18 +7,19 @@ use mathlib.Core.Logic.{_↔_}
 use native.Mathlib.Omega.{arith}
 use borrow.Author.Tests.{ltb-false, le-ltb}
 use lib.Dec.{ltb}
-use Rattle.question.specs.declared.statements.Statement.{Statement}
+use Rattle.statement.specs.declared.statements.Statement.{Statement}
 use Rattle.question.specs.declared.questions.Question.{Question}
-use Rattle.question.specs.declared.admissions.NameTest.{NameTest}
-use Rattle.question.specs.declared.admissions.NameTest.the-variants.{Declared, Undeclared}
+use Rattle.statement.specs.declared.name_tests.NameTest.{NameTest}
+use Rattle.statement.specs.declared.name_tests.NameTest.the-variants.{Declared, Undeclared}
 use Rattle.outcome.specs.declared.checks.Check.{Check}
 use Rattle.outcome.specs.declared.checks.Check.the-variants.{Accepted, Refused}
 use Rattle.question.specs.Limits.{maxElements, maxSets, maxStatements, maxTerms}
 use Rattle.outcome.specs.Refusals.{refusal, tooManyNames, tooManyStatements}
 use Rattle.outcome.proofs.CheckLaws.{refused-accepted}
-use Rattle.question.specs.Statements.{makesWitness}
-use Rattle.question.specs.Questions.{statements, witness, witnesses, termsOf}
-use Rattle.question.specs.Admissions.{nameTest, oneTooMany, namesThen, admission, admittedAt}
+use Rattle.statement.specs.Statements.{makesWitness, witness, witnesses}
+use Rattle.question.specs.Questions.{statements, termsOf}
+use Rattle.question.specs.Admissions.{oneTooMany, namesThen, admission, admittedAt}
+use Rattle.statement.specs.NameTests.{nameTest}
 use Rattle.question.specs.Checks.{statementsChecked, checked, AllDeclared, IsAccepted}
 use Rattle.outcome.specs.Checks.{acceptedThen}
 

@@ -8,7 +8,7 @@ use Rattle.outcome.specs.declared.checks.Check.the-variants.{Accepted, Refused}
 use Rattle.outcome.specs.Refusals.{refusal, tooManyNames}
 use Rattle.outcome.proofs.Never.{never}
 use Rattle.outcome.proofs.CheckLaws.{refused-accepted}
-use Rattle.question.specs.declared.statements.Statement.{Statement}
+use Rattle.statement.specs.declared.statements.Statement.{Statement}
 use Rattle.question.specs.declared.admissions.Admission.{Admission}
 use Rattle.question.specs.declared.admissions.Admission.the-variants.{Admitted, TooManyStatements, Undeclared, TooManyTerms}
 use Rattle.question.specs.Limits.{maxElements, maxSets, maxStatements}

@@ -11,7 +11,7 @@ use lib.Bits.{bitOr, or-shr, or-step, bitAnd, and-shr, and-step}
 use lib.Dec.{eqb}
 use lib.Pow.{pow-add, pow-pos, pow-mono}
 use Rattle.question.specs.Masks.{bit}
-use Rattle.question.proofs.TestLaws.{same-test, both-true}
+use Rattle.statement.proofs.TestLaws.{same-test, both-true}
 
 -- no bit from the n-th on, where the number is below 2 to the n
 pub bit-past : (x n c : ℕ) → x < 2 ^ n → n ≤ c → bit x c ≡ false

@@ -6,11 +6,12 @@ use mathlib.Core.List.{List, [], _∷_, _++_, map, map-append, append-assoc}
 use native.Mathlib.Omega.{arith}
 use lib.ListN.{length, getD, take, replicate, set, length-append, length-map, length-take}
 use lib.Seq.{set-at, take-at, take-all, length-take-le}
-use Rattle.question.specs.declared.statements.Statement.{Statement}
+use Rattle.statement.specs.declared.statements.Statement.{Statement}
 use Rattle.question.specs.declared.questions.Record.{Record}
 use Rattle.question.specs.declared.questions.Question.{Question}
 use Rattle.question.specs.Limits.{maxStatements}
-use Rattle.question.specs.Questions.{idle, emptyQuestion, questionOf, statements, witnesses, termsOf}
+use Rattle.question.specs.Questions.{idle, emptyQuestion, questionOf, statements, termsOf}
+use Rattle.statement.specs.Statements.{witnesses}
 use Rattle.question.specs.Builds.{unusedTable, declaring, added, without, dropped}
 use Rattle.question.proofs.StatementsLaws.{statements-length, statements-more}
 

@@ -7,7 +7,8 @@ use Rattle.question.specs.declared.questions.Record.{Record}
 use Rattle.question.specs.declared.questions.Question.{Question}
 use Rattle.outcome.specs.declared.checks.Check.{Check}
 use Rattle.outcome.specs.declared.checks.Check.the-variants.{Accepted, Refused}
-use Rattle.question.specs.Questions.{statements, witness}
+use Rattle.question.specs.Questions.{statements}
+use Rattle.statement.specs.Statements.{witness}
 use Rattle.question.specs.Admissions.{admission, admittedAt}
 use Rattle.question.specs.Checks.{statementsChecked}
 use Rattle.outcome.specs.Checks.{acceptedThen}

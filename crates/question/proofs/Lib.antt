@@ -1,11 +1,9 @@
 -- Laws that belong to no one function.
-pub mod TestLaws
 pub mod BitLaws
 pub mod StatementsLaws
 pub mod AdmissionLaws
 pub mod CheckLaws
 pub mod BuildLaws
-pub mod EverywhereLaws
 pub mod AcceptedLaws
 pub mod SoundLaws
 pub mod NamesLaws

@@ -6,15 +6,15 @@ use mathlib.Core.List.{List, [], _∷_, map}
 use borrow.Author.Tests.{ltb-true}
 use lib.Dec.{T, eqb}
 use Rattle.outcome.proofs.Never.{never}
-use Rattle.question.specs.declared.names.ElementName.{ElementName}
-use Rattle.question.specs.declared.names.SetName.{SetName}
-use Rattle.question.specs.declared.statements.Statement.{Statement}
-use Rattle.question.specs.declared.statements.Statement.the-variants.{ElementsEqual, ElementsDiffer, In, NotIn, SetsEqual, SetsDiffer, Empty, Single, Union, Intersection, Difference}
-use Rattle.question.specs.declared.admissions.NameTest.the-variants.{Declared, Undeclared}
-use Rattle.question.specs.Statements.{Name, element, set, namesOf}
-use Rattle.question.specs.Admissions.{declared, leftmost}
+use Rattle.statement.specs.declared.names.ElementName.{ElementName}
+use Rattle.statement.specs.declared.names.SetName.{SetName}
+use Rattle.statement.specs.declared.statements.Statement.{Statement}
+use Rattle.statement.specs.declared.statements.Statement.the-variants.{ElementsEqual, ElementsDiffer, In, NotIn, SetsEqual, SetsDiffer, Empty, Single, Union, Intersection, Difference}
+use Rattle.statement.specs.declared.name_tests.NameTest.the-variants.{Declared, Undeclared}
+use Rattle.statement.specs.Statements.{Name, element, set, namesOf}
+use Rattle.statement.specs.NameTests.{declared, leftmost}
 use Rattle.question.specs.Checks.{AllDeclared}
-use Rattle.question.specs.Meaning.{Assignment, everywhere, holds, AllHold}
+use Rattle.statement.specs.Meaning.{Assignment, everywhere, holds, AllHold}
 
 -- two assignments over a domain of the same size
 module _ (A B : Assignment) (size : A .size ≡ B .size) where

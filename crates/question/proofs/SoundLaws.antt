@@ -8,12 +8,13 @@ use lib.ListN.{length, length-append}
 use Rattle.outcome.specs.declared.checks.Check.the-variants.{Accepted, Refused}
 use Rattle.outcome.specs.Checks.{acceptedThen}
 use Rattle.outcome.proofs.CheckLaws.{refused-accepted}
-use Rattle.question.specs.declared.statements.Statement.{Statement}
+use Rattle.statement.specs.declared.statements.Statement.{Statement}
 use Rattle.question.specs.declared.questions.Question.{Question}
 use Rattle.question.specs.declared.admissions.Admission.{Admission}
 use Rattle.question.specs.declared.admissions.Admission.the-variants.{Admitted, TooManyStatements, Undeclared, TooManyTerms}
 use Rattle.question.specs.Limits.{maxElements, maxSets, maxStatements}
-use Rattle.question.specs.Questions.{questionOf, statements, witness, witnesses}
+use Rattle.question.specs.Questions.{questionOf, statements}
+use Rattle.statement.specs.Statements.{witness, witnesses}
 use Rattle.question.specs.Admissions.{admission, admittedAt}
 use Rattle.question.specs.Checks.{statementsChecked, checked}
 use Rattle.question.proofs.StatementsLaws.{statements-length}

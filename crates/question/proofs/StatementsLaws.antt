@@ -7,12 +7,12 @@ use native.Mathlib.Omega.{arith}
 use native.Mathlib.Numerals.{add-one}
 use lib.ListN.{length, getD, take, drop, length-take, length-map, List·getD-map, drop-of-length-le}
 use lib.Seq.{drop-cons, take-suc, getD-take}
-use Rattle.question.specs.declared.statements.Statement.{Statement}
+use Rattle.statement.specs.declared.statements.Statement.{Statement}
 use Rattle.question.specs.declared.questions.Record.{Record}
 use Rattle.question.specs.declared.questions.Question.{Question}
 use Rattle.question.specs.Limits.{maxStatements}
-use Rattle.question.specs.Statements.{makesWitness}
-use Rattle.question.specs.Questions.{statements, witness, witnesses, termsOf}
+use Rattle.statement.specs.Statements.{makesWitness, witness, witnesses}
+use Rattle.question.specs.Questions.{statements, termsOf}
 
 -- a statement makes at most one witness
 pub witness-small : (s : Statement) → witness s ≤ 1

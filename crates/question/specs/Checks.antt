@@ -4,15 +4,17 @@ use mathlib.Core.Bool.{_||_, cond}
 use mathlib.Core.List.{List, [], _∷_}
 use mathlib.Core.Path.{_≡_}
 use lib.Dec.{ltb}
-use Rattle.question.specs.declared.statements.Statement.{Statement}
+use Rattle.statement.specs.declared.statements.Statement.{Statement}
 use Rattle.question.specs.declared.questions.Question.{Question}
-use Rattle.question.specs.declared.admissions.NameTest.the-variants.{Declared}
+use Rattle.statement.specs.declared.name_tests.NameTest.the-variants.{Declared}
 use Rattle.outcome.specs.declared.checks.Check.{Check}
 use Rattle.outcome.specs.declared.checks.Check.the-variants.{Accepted, Refused}
 use Rattle.question.specs.Limits.{maxElements, maxSets, maxStatements, maxTerms}
 use Rattle.outcome.specs.Refusals.{refusal, tooManyNames, tooManyStatements}
-use Rattle.question.specs.Questions.{statements, witness, termsOf}
-use Rattle.question.specs.Admissions.{nameTest, admission, admittedAt}
+use Rattle.question.specs.Questions.{statements, termsOf}
+use Rattle.statement.specs.Statements.{witness}
+use Rattle.question.specs.Admissions.{admission, admittedAt}
+use Rattle.statement.specs.NameTests.{nameTest}
 use Rattle.outcome.specs.Checks.{acceptedThen}
 
 -- E or S above its limit: 5

@@ -1,14 +1,13 @@
 -- A question's statements and its terms.
 use Prim.Native.Nat.{ℕ, _+_, _-_}
-use mathlib.Core.Bool.{cond}
 use mathlib.Core.List.{List, [], _∷_, _++_, map}
 use lib.ListN.{length, take, replicate}
-use Rattle.question.specs.declared.statements.Statement.{Statement}
-use Rattle.question.specs.declared.statements.Statement.the-variants.{ElementsEqual}
+use Rattle.statement.specs.declared.statements.Statement.{Statement}
+use Rattle.statement.specs.declared.statements.Statement.the-variants.{ElementsEqual}
 use Rattle.question.specs.declared.questions.Record.{Record}
 use Rattle.question.specs.declared.questions.Question.{Question}
 use Rattle.question.specs.Limits.{maxStatements}
-use Rattle.question.specs.Statements.{makesWitness}
+use Rattle.statement.specs.Statements.{witnesses}
 
 -- "0 = 0" of element names, which stands in the unused records of a table
 abbrev pub idle : Record
@@ -25,14 +24,6 @@ questionOf E S ss = record { elements = E; sets = S; count = length ss; table = 
 -- the statements in order: entries past the count are ignored
 unfoldable pub statements : Question → List Statement
 statements q = map (λ r. r .statement) (take (q .count) (q .table))
-
--- how many witnesses a statement makes, and how many some statements make
-unfoldable pub witness : Statement → ℕ
-witness s = cond (makesWitness s) 1 0
-
-unfoldable pub witnesses : List Statement → ℕ
-witnesses [] = 0
-witnesses (s ∷ ss) = witness s + witnesses ss
 
 -- T, the number of terms: the element names, then one witness for each x ≠ y
 unfoldable pub termsOf : Question → ℕ

@@ -1,20 +1,14 @@
 // The test of one statement where others stand already: room for it (7), its names (6), room for its witness (8).
 // Whoever takes statements in takes this step, and says at which place the refusal is told.
 use crate::questions::Question;
-use crate::statements::Statement;
 use outcome::Check;
 use outcome::Refusal;
+use statement::NameTest;
+use statement::Statement;
+use statement::name_test;
 ghost use mathlib.Core.Path.{_≡_};
-ghost use mathlib.Core.List.{[], _∷_};
-ghost use lib.Dec.{ltb};
 ghost use mathlib.Core.Bool.{cond};
-ghost use Rattle.question.specs.Admissions.{leftmost, nameTest, oneTooMany, admission, addition, admittedAt};
-
-pub enum NameTest {
-    Declared,
-    // The position in the body of the leftmost name that is not declared.
-    Undeclared(usize),
-}
+ghost use Rattle.question.specs.Admissions.{oneTooMany, admission, addition, admittedAt};
 
 pub enum Admission {
     Admitted,
@@ -41,64 +35,6 @@ impl Admission {
                 Check::Refused(Refusal::new(Refusal::TOO_MANY_TERMS, place))
             }
         }
-    }
-}
-
-// One name, which is declared if it is below n.
-fn one_name(x: u8, n: u8) -> NameTest
-    ensures { λ r. ⌜ r ≡ leftmost 0 (ltb x n ∷ []) ⌝ }
-{
-    if n <= x {
-        return NameTest::Undeclared(0);
-    }
-    NameTest::Declared
-}
-
-// Two names, each with how many of its sort are declared.
-fn two_names(x: u8, m: u8, y: u8, n: u8) -> NameTest
-    ensures { λ r. ⌜ r ≡ leftmost 0 (ltb x m ∷ ltb y n ∷ []) ⌝ }
-{
-    if m <= x {
-        return NameTest::Undeclared(0);
-    }
-    if n <= y {
-        return NameTest::Undeclared(1);
-    }
-    NameTest::Declared
-}
-
-// Three set names.
-fn three_names(x: u8, y: u8, z: u8, n: u8) -> NameTest
-    ensures { λ r. ⌜ r ≡ leftmost 0 (ltb x n ∷ ltb y n ∷ ltb z n ∷ []) ⌝ }
-{
-    if n <= x {
-        return NameTest::Undeclared(0);
-    }
-    if n <= y {
-        return NameTest::Undeclared(1);
-    }
-    if n <= z {
-        return NameTest::Undeclared(2);
-    }
-    NameTest::Declared
-}
-
-// Are the names of a statement declared, where there are so many names of each sort.
-pub fn name_test(s: Statement, elements: u8, sets: u8) -> NameTest
-    ensures { λ r. ⌜ r ≡ nameTest elements sets s ⌝ }
-{
-    match s {
-        Statement::ElementsEqual(a, b) => two_names(a.0, elements, b.0, elements),
-        Statement::ElementsDiffer(a, b) => two_names(a.0, elements, b.0, elements),
-        Statement::In(a, x) => two_names(a.0, elements, x.0, sets),
-        Statement::NotIn(a, x) => two_names(a.0, elements, x.0, sets),
-        Statement::SetsEqual(x, y) => two_names(x.0, sets, y.0, sets),
-        Statement::SetsDiffer(x, y) => two_names(x.0, sets, y.0, sets),
-        Statement::Empty(x) => one_name(x.0, sets),
-        Statement::Single(x, a) => two_names(x.0, sets, a.0, elements),
-        Statement::Union(x, y, z) => three_names(x.0, y.0, z.0, sets),
-        Statement::Intersection(x, y, z) => three_names(x.0, y.0, z.0, sets),
-        Statement::Difference(x, y, z) => three_names(x.0, y.0, z.0, sets),
     }
 }
 

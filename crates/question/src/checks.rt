@@ -1,22 +1,14 @@
 // The check of a question that is handed in as a table, and the number of its terms.
 use crate::admissions::admit;
 use crate::questions::Question;
-use crate::statements::Statement;
 use outcome::Check;
 use outcome::Refusal;
+use statement::witness_of;
 ghost use mathlib.Core.Path.{_≡_};
 ghost use Prim.Native.Nat.{_≤_};
 ghost use Rattle.question.specs.Limits.{maxStatements};
-ghost use Rattle.question.specs.Questions.{statements, witness, termsOf};
+ghost use Rattle.question.specs.Questions.{statements, termsOf};
 ghost use Rattle.question.specs.Checks.{namesCheckedAt, statementsChecked, checked};
-
-// How many witnesses a statement makes.
-pub fn witness_of(s: Statement) -> usize
-    ensures { λ r. ⌜ r ≡ witness s ⌝ }
-{
-    let tag = s.tag();
-    if tag == 0x21 { 1 } else { 0 }
-}
 
 // Statement by statement: 6, then 8, at its index.
 fn check_statements(q: Question) -> Check

@@ -1,6 +1,6 @@
 // A question: how many names of each sort it declares, and its statements in a table of 64 records.
-use crate::names::ElementName;
-use crate::statements::Statement;
+use statement::ElementName;
+use statement::Statement;
 ghost use mathlib.Core.Path.{_≡_};
 ghost use Rattle.question.specs.Questions.{emptyQuestion};
 

@@ -11,7 +11,7 @@ use Rattle.outcome.specs.declared.checks.Check.the-variants.{Accepted}
 use Rattle.outcome.specs.Refusals.{refusal, bytesAfterEnd}
 use Rattle.outcome.proofs.CheckLaws.{refused-accepted}
 use Rattle.field.specs.Heads.{endBytes}
-use Rattle.question.specs.declared.statements.Statement.{Statement}
+use Rattle.statement.specs.declared.statements.Statement.{Statement}
 use Rattle.question.specs.declared.questions.Question.{Question}
 use Rattle.question.specs.declared.admissions.Admission.the-variants.{Admitted}
 use Rattle.question.specs.Limits.{maxElements, maxSets, maxStatements}

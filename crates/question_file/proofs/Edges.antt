@@ -3,10 +3,11 @@ use Prim.Native.Nat.{ℕ}
 use mathlib.Core.Path.{_≡_, refl}
 use mathlib.Core.List.{List, [], _∷_, _++_}
 use lib.ListN.{length, replicate}
-use Rattle.question.specs.declared.statements.Statement.{Statement}
-use Rattle.question.specs.declared.statements.Statement.the-variants.{In, SetsDiffer, Single, Union}
+use Rattle.statement.specs.declared.statements.Statement.{Statement}
+use Rattle.statement.specs.declared.statements.Statement.the-variants.{In, SetsDiffer, Single, Union}
 use Rattle.outcome.specs.Refusals.{refusal, dataEnds, tagUnknown, tagOutOfPlace, tooManyNames, tooManyStatements, tooManyTerms, bytesAfterEnd}
-use Rattle.question.specs.Questions.{questionOf, statements, witness, witnesses, termsOf}
+use Rattle.question.specs.Questions.{questionOf, statements, termsOf}
+use Rattle.statement.specs.Statements.{witness, witnesses}
 use Rattle.question.specs.Admissions.{admission, addition}
 use Rattle.field.specs.Tags.{lengthIn}
 use Rattle.field.specs.Heads.{headOf}

@@ -4,10 +4,11 @@ use mathlib.Core.Path.{_≡_, sym, ap, _∙_}
 use mathlib.Core.List.{List, [], _∷_, _++_}
 use native.Mathlib.Omega.{arith}
 use lib.ListN.{length, length-append}
-use Rattle.question.specs.declared.statements.Statement.{Statement}
+use Rattle.statement.specs.declared.statements.Statement.{Statement}
 use Rattle.question.specs.declared.questions.Question.{Question}
 use Rattle.question.specs.Limits.{maxElements, maxStatements}
-use Rattle.question.specs.Questions.{questionOf, witness, witnesses, termsOf}
+use Rattle.question.specs.Questions.{questionOf, termsOf}
+use Rattle.statement.specs.Statements.{witness, witnesses}
 use Rattle.question.specs.Builds.{declaring, added}
 use Rattle.question.proofs.StatementsLaws.{witness-small, witnesses-few, witnesses-snoc}
 use Rattle.question.proofs.BuildLaws.{declaring-of, added-of, terms-of}

@@ -7,10 +7,11 @@ use borrow.Author.Tests.{le-ltb}
 use lib.ListN.{length, drop, length-append, length-drop}
 use Rattle.outcome.specs.declared.checks.Check.the-variants.{Accepted}
 use Rattle.field.specs.Heads.{endBytes}
-use Rattle.question.specs.declared.statements.Statement.{Statement}
+use Rattle.statement.specs.declared.statements.Statement.{Statement}
 use Rattle.question.specs.declared.admissions.Admission.the-variants.{Admitted}
 use Rattle.question.specs.Limits.{maxStatements}
-use Rattle.question.specs.Questions.{questionOf, witness, witnesses}
+use Rattle.question.specs.Questions.{questionOf}
+use Rattle.statement.specs.Statements.{witness, witnesses}
 use Rattle.question.specs.Admissions.{admission}
 use Rattle.question.specs.Checks.{statementsChecked}
 use Rattle.question.specs.Builds.{declaring}

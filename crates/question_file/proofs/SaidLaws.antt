@@ -20,8 +20,8 @@ use Rattle.field.specs.Frames.{inPlace, frameOf}
 use Rattle.field.proofs.TagLaws.{rule, fixed}
 use Rattle.field.proofs.HeadLaws.{head-read}
 use Rattle.field.proofs.FrameLaws.{IsSound, sound, written-sound, frame-number}
-use Rattle.question.specs.declared.statements.Statement.{Statement}
-use Rattle.question.specs.Statements.{tagOf}
+use Rattle.statement.specs.declared.statements.Statement.{Statement}
+use Rattle.statement.specs.Statements.{tagOf}
 use Rattle.question_file.specs.declared.bodies.Made.{Made}
 use Rattle.question_file.specs.declared.bodies.Made.the-variants.{Stated as StatementMade}
 use Rattle.question_file.specs.declared.fields.Said.{Said}

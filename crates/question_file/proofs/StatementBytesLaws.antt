@@ -5,7 +5,7 @@ use mathlib.Core.List.{List, [], _∷_, _++_}
 use native.Mathlib.Omega.{arith}
 use lib.ListN.{length, getD, take, drop, length-append}
 use lib.Seq.{take-append-seam}
-use Rattle.question.specs.declared.statements.Statement.{Statement}
+use Rattle.statement.specs.declared.statements.Statement.{Statement}
 use Rattle.question.specs.declared.questions.Record.{Record}
 use Rattle.question.specs.declared.questions.Question.{Question}
 use Rattle.question.specs.Questions.{statements}
@@ -16,7 +16,7 @@ use Rattle.field.specs.declared.tags.File.the-variants.{Question as QuestionFil
 use Rattle.field.specs.Writes.{fieldLength}
 use Rattle.field.proofs.TagLaws.{rule, fixed}
 use Rattle.field.proofs.WriteLaws.{length-written}
-use Rattle.question.specs.Statements.{tagOf}
+use Rattle.statement.specs.Statements.{tagOf}
 use Rattle.question_file.proofs.BodyLaws.{field}
 use Rattle.question_file.specs.Bytes.{statementBytes, statementsBytes, fileBytes, questionBytes}
 

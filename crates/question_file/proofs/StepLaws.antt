@@ -9,7 +9,7 @@ use Rattle.outcome.specs.declared.checks.Check.the-variants.{Accepted, Refused 
 use Rattle.outcome.specs.Checks.{acceptedThen}
 use Rattle.outcome.proofs.Never.{never}
 use Rattle.field.specs.Heads.{endBytes}
-use Rattle.question.specs.declared.statements.Statement.{Statement}
+use Rattle.statement.specs.declared.statements.Statement.{Statement}
 use Rattle.question.specs.declared.questions.Question.{Question}
 use Rattle.question.specs.declared.admissions.Admission.the-variants.{Admitted}
 use Rattle.question.specs.Limits.{maxElements, maxSets, maxStatements}

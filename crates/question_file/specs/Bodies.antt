@@ -3,11 +3,11 @@ use Prim.Native.Nat.{ℕ}
 use mathlib.Core.Bool.{cond}
 use mathlib.Core.List.{List, map}
 use lib.Dec.{eqb}
-use Rattle.question.specs.declared.names.ElementName.{ElementName}
-use Rattle.question.specs.declared.names.SetName.{SetName}
-use Rattle.question.specs.declared.statements.Statement.{Statement}
-use Rattle.question.specs.declared.statements.Statement.the-variants.{ElementsEqual, ElementsDiffer, In, NotIn, SetsEqual, SetsDiffer, Empty, Single, Union, Intersection, Difference}
-use Rattle.question.specs.Statements.{Name, element, set, namesOf}
+use Rattle.statement.specs.declared.names.ElementName.{ElementName}
+use Rattle.statement.specs.declared.names.SetName.{SetName}
+use Rattle.statement.specs.declared.statements.Statement.{Statement}
+use Rattle.statement.specs.declared.statements.Statement.the-variants.{ElementsEqual, ElementsDiffer, In, NotIn, SetsEqual, SetsDiffer, Empty, Single, Union, Intersection, Difference}
+use Rattle.statement.specs.Statements.{Name, element, set, namesOf}
 use Rattle.question_file.specs.declared.bodies.Made.{Made}
 use Rattle.question_file.specs.declared.bodies.Made.the-variants.{Stated, NotStated}
 

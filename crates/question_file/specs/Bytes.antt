@@ -1,9 +1,9 @@
 -- A question as the bytes of a file: field 01 with E and S, the statements' fields in order, then 7F.
 use Prim.Native.Nat.{ℕ}
 use mathlib.Core.List.{List, [], _∷_, _++_}
-use Rattle.question.specs.declared.statements.Statement.{Statement}
+use Rattle.statement.specs.declared.statements.Statement.{Statement}
 use Rattle.question.specs.declared.questions.Question.{Question}
-use Rattle.question.specs.Statements.{tagOf}
+use Rattle.statement.specs.Statements.{tagOf}
 use Rattle.question.specs.Questions.{statements}
 use Rattle.field.specs.Heads.{fieldBytes, endBytes}
 use Rattle.question_file.specs.Bodies.{bodyOf}

@@ -2,9 +2,9 @@
 use field::BodyLength;
 use field::File;
 use field::length_of;
-use question::ElementName;
-use question::SetName;
-use question::Statement;
+use statement::ElementName;
+use statement::SetName;
+use statement::Statement;
 ghost use mathlib.Core.Path.{_≡_};
 ghost use lib.ListN.{length};
 ghost use Rattle.question_file.specs.Bodies.{bodyOf, longestBody, statementOf};

@@ -7,7 +7,7 @@ use field::Frame;
 use field::byte_at;
 use field::frame_at;
 use outcome::Refusal;
-use question::Statement;
+use statement::Statement;
 ghost use mathlib.Core.Path.{_≡_};
 ghost use Prim.Native.Nat.{_+_, _≤_};
 ghost use lib.ListN.{length, drop};

@@ -1,14 +1,14 @@
 // The reader of question files: bytes to a question, or a refusal with its number and place.
 use crate::fields::Said;
 use crate::fields::field_at;
+use building::declare;
 use outcome::Check;
 use outcome::Refusal;
 use question::Question;
 use question::Record;
 use question::check_names;
-use question::declare;
 use question::may_add;
-use question::witness_of;
+use statement::witness_of;
 ghost use mathlib.Core.Path.{_≡_};
 ghost use Rattle.question_file.specs.Reads.{refusedFile, readQuestion};
 

@@ -4,14 +4,15 @@ use mathlib.Core.Path.{_≡_, refl, sym, ap, _∙_}
 use mathlib.Core.List.{List, [], _∷_, _++_, map, map-append}
 use native.Mathlib.Omega.{arith}
 use lib.ListN.{length, getD, drop, length-append, length-map}
-use Rattle.question.specs.declared.statements.Statement.{Statement}
+use Rattle.statement.specs.declared.statements.Statement.{Statement}
 use Rattle.question.specs.declared.questions.Record.{Record}
 use Rattle.question.specs.declared.questions.Question.{Question}
 use Rattle.outcome.specs.Writes.{over, fitted, fittedOver}
 use Rattle.outcome.proofs.WriteLaws.{fits, too-short}
 use Rattle.question.specs.Limits.{maxRows}
 use Rattle.outcome.specs.Refusals.{refusal, bufferTooShort}
-use Rattle.question.specs.Questions.{statements, witness, termsOf}
+use Rattle.question.specs.Questions.{statements, termsOf}
+use Rattle.statement.specs.Statements.{witness}
 use Rattle.outcome.specs.declared.refusals.Refusal.{Refusal}
 use Rattle.outcome.specs.declared.checks.Check.the-variants.{Refused}
 use Rattle.question.specs.Checks.{checked, IsAccepted}

@@ -1,7 +1,7 @@
 -- The rows of a statement, packed.
 use Prim.Native.Nat.{ℕ}
 use mathlib.Core.List.{List, map}
-use Rattle.question.specs.declared.statements.Statement.{Statement}
+use Rattle.statement.specs.declared.statements.Statement.{Statement}
 use Rattle.theory.specs.Rules.{upward, rowsOfRule}
 use Rattle.theory.specs.Reduction.{rule}
 use Rattle.row.specs.declared.parts.RowParts.{RowParts}

@@ -1,7 +1,7 @@
 // Rows written at the front of a lent part of the buffer: one, one for each term, those of a statement.
-use question::Statement;
 use row::RowParts;
 use row::pack;
+use statement::Statement;
 ghost use mathlib.Core.Path.{_≡_};
 ghost use mathlib.Core.List.{[], _∷_};
 ghost use Prim.Native.Nat.{_≤_, _<_};

@@ -9,7 +9,7 @@ use lib.ListN.{length}
 use Rattle.outcome.specs.declared.checks.Check.the-variants.{Accepted, Refused}
 use Rattle.question.specs.Limits.{maxTerms, maxSets, maxRows}
 use Rattle.outcome.specs.Refusals.{refusal, tooManyNames, tooManyStatements, badRow}
-use Rattle.question.proofs.TestLaws.{and-left, and-right, and-both}
+use Rattle.statement.proofs.TestLaws.{and-left, and-right, and-both}
 use Rattle.outcome.proofs.CheckLaws.{refused-accepted}
 use Rattle.theory.specs.Rules.{Row}
 use Rattle.theory.specs.Solutions.{allRows}

@@ -5,7 +5,7 @@ use mathlib.Core.Bool.{Bool, true, false, _&&_}
 use native.Mathlib.Omega.{arith}
 use lib.Dec.{T, ltb, ltb→lt, lt→ltb}
 use Rattle.question.specs.Limits.{maxTerms, maxSets}
-use Rattle.question.proofs.TestLaws.{true-T, and-left, and-right, and-both}
+use Rattle.statement.proofs.TestLaws.{true-T, and-left, and-right, and-both}
 use Rattle.theory.specs.Rules.{Row}
 use Rattle.theory.specs.Sets.{Test, IsSame, IsNotSame, IsIn, IsNotIn, ExactlyIfIn, ExactlyIfNotIn, ExactlyIfSame, ExactlyIfOr, ExactlyIfAnd, ExactlyIfAndNot, placesOf, kindOf, placesDeclared, rowDeclared}
 use Rattle.theory.proofs.PlaceLaws.{test-again}

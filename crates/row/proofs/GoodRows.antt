@@ -4,7 +4,7 @@ use mathlib.Core.Path.{_≡_, refl, ap, _∙_}
 use mathlib.Core.Bool.{Bool, true, false, _&&_}
 use lib.Dec.{T, eqb, ltb, ltb→lt, eqb→eq}
 use lib.ListN.{getD}
-use Rattle.question.proofs.TestLaws.{T-true, and-left, and-right, and-both}
+use Rattle.statement.proofs.TestLaws.{T-true, and-left, and-right, and-both}
 use Rattle.theory.specs.Sets.{placesOf, testOf, placesDeclared, rowDeclared}
 use Rattle.row.specs.declared.parts.RowParts.{RowParts}
 use Rattle.row.specs.Parts.{rowBits, packed, partsOf}

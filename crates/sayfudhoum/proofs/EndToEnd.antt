@@ -16,7 +16,7 @@ use Rattle.outcome.specs.declared.refusals.Refusal.{Refusal}
 use Rattle.question.specs.declared.questions.Question.{Question}
 use Rattle.question.specs.Questions.{statements}
 use Rattle.question.specs.Checks.{IsAccepted}
-use Rattle.question.specs.Meaning.{Assignment, IsAssignment, AllHold}
+use Rattle.statement.specs.Meaning.{Assignment, IsAssignment, AllHold}
 use Rattle.question.proofs.AcceptedLaws.{accepted}
 use Rattle.outcome.specs.declared.checks.Check.{Check}
 use Rattle.outcome.specs.declared.checks.Check.the-variants.{Accepted, Refused}

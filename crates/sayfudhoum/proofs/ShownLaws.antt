@@ -13,9 +13,9 @@ use Rattle.question.specs.Limits.{maxElements, maxTerms}
 use Rattle.question.specs.Questions.{statements}
 use Rattle.question.specs.Checks.{IsAccepted}
 use Rattle.question.specs.Masks.{bit}
-use Rattle.question.specs.Meaning.{AllHold}
-use Rattle.question.proofs.TestLaws.{true-T}
-use Rattle.question.proofs.EverywhereLaws.{everywhere-of}
+use Rattle.statement.specs.Meaning.{AllHold}
+use Rattle.statement.proofs.TestLaws.{true-T}
+use Rattle.statement.proofs.EverywhereLaws.{everywhere-of}
 use Rattle.question.proofs.NamesLaws.{hold-same}
 use Rattle.theory.specs.Arrangements.{classes}
 use Rattle.theory.specs.Solutions.{Solution, maskOf}

@@ -9,7 +9,7 @@ use lib.Dec.{T}
 use lib.ListN.{length, getD, drop, drop-of-length-le}
 use lib.Seq.{drop-cons}
 use Rattle.question.specs.Masks.{bit}
-use Rattle.question.proofs.TestLaws.{T-true, true-T}
+use Rattle.statement.proofs.TestLaws.{T-true, true-T}
 use Rattle.theory.specs.Rules.{Row}
 use Rattle.theory.specs.Sets.{Test}
 use Rattle.theory.specs.Solutions.{allRows}

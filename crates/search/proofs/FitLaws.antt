@@ -14,7 +14,7 @@ use lib.Pow.{pow-mono, pow-pos}
 use lib.Seq.{getD-set-same, getD-set-other}
 use Rattle.question.specs.Limits.{maxTerms}
 use Rattle.question.specs.Masks.{bit}
-use Rattle.question.proofs.TestLaws.{and-right}
+use Rattle.statement.proofs.TestLaws.{and-right}
 use Rattle.theory.specs.Sets.{fits}
 use Rattle.mask.specs.Entries.{rowsOfEntries}
 use Rattle.cut.specs.Members.{members}

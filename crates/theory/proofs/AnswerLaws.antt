@@ -5,7 +5,7 @@ use mathlib.Core.Option.{none, some}
 use Rattle.question.specs.declared.questions.Question.{Question}
 use Rattle.question.specs.Questions.{statements, termsOf}
 use Rattle.question.specs.Checks.{IsAccepted}
-use Rattle.question.specs.Meaning.{Assignment, IsAssignment, AllHold}
+use Rattle.statement.specs.Meaning.{Assignment, IsAssignment, AllHold}
 use Rattle.theory.specs.Arrangements.{Before}
 use Rattle.theory.specs.Solutions.{Solution}
 use Rattle.theory.specs.FirstModels.{HasSmallest}

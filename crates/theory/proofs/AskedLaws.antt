@@ -5,9 +5,9 @@ use mathlib.Core.Path.{_≡_, sym, subst, _∙_}
 use mathlib.Core.Bool.{Bool, not, Bool·not-not}
 use mathlib.Core.Logic.{_↔_}
 use lib.Dec.{T, eqb}
-use Rattle.question.specs.Meaning.{everywhere}
+use Rattle.statement.specs.Meaning.{everywhere}
 use Rattle.theory.specs.Rules.{Rule, OneTerm, EachTerm, OwnWitness}
-use Rattle.question.proofs.EverywhereLaws.{everywhere-at, everywhere-of, fails-at, fails-of}
+use Rattle.statement.proofs.EverywhereLaws.{everywhere-at, everywhere-of, fails-at, fails-of}
 use Rattle.theory.proofs.RuleLaws.{RuleNamed}
 use Rattle.theory.proofs.ModelLaws.{MaskModel, passesAt, RuleMet}
 

@@ -4,7 +4,8 @@ use mathlib.Core.List.{map}
 use mathlib.Core.Option.{Option}
 use Rattle.outcome.specs.declared.checks.Check.{Check}
 use Rattle.outcome.specs.declared.checks.Check.the-variants.{Accepted}
-use Rattle.question.specs.Questions.{statements, witness, witnesses, termsOf}
+use Rattle.question.specs.Questions.{statements, termsOf}
+use Rattle.statement.specs.Statements.{witness, witnesses}
 use Rattle.question.specs.Admissions.{admission}
 use Rattle.question.specs.Checks.{statementsChecked, checked}
 use Rattle.theory.specs.Searches.{firstFrom, firstPlacing, eachFrom, firstPassing}

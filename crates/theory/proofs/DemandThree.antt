@@ -12,7 +12,7 @@ use Rattle.question.specs.declared.questions.Question.{Question}
 use Rattle.question.specs.Questions.{statements, termsOf}
 use Rattle.question.specs.Checks.{IsAccepted}
 use Rattle.question.specs.Masks.{bit}
-use Rattle.question.specs.Meaning.{Assignment, IsAssignment, AllHold}
+use Rattle.statement.specs.Meaning.{Assignment, IsAssignment, AllHold}
 use Rattle.theory.specs.Lists.{Every}
 use Rattle.theory.specs.Arrangements.{classes}
 use Rattle.theory.specs.Patterns.{patternOf}

@@ -6,7 +6,7 @@ use mathlib.Core.List.{List, [], _∷_, _++_, map}
 use native.Mathlib.Omega.{arith}
 use lib.Dec.{T}
 use lib.ListN.{length, getD}
-use Rattle.question.proofs.TestLaws.{and-left, and-right, and-both}
+use Rattle.statement.proofs.TestLaws.{and-left, and-right, and-both}
 use Rattle.theory.specs.Lists.{allOf, Every}
 
 module _ {A : Type 0} where

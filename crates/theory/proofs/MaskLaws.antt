@@ -16,7 +16,7 @@ use Rattle.theory.specs.Searches.{eachFrom}
 use Rattle.theory.specs.Rules.{Row}
 use Rattle.theory.specs.Solutions.{Solution, withMasks, maskOf, allRows, metBy, met, IsSolution}
 use Rattle.theory.specs.FirstModels.{serves, servesAll, smallestMask, modelOf, HasSmallest}
-use Rattle.question.proofs.TestLaws.{T-true}
+use Rattle.statement.proofs.TestLaws.{T-true}
 use Rattle.theory.proofs.ArrangementLaws.{class-below}
 use Rattle.theory.proofs.SearchLaws.{EachIs, eachFrom-is, SmallestIs, firstPassing-is}
 use Rattle.theory.proofs.ListLaws.{all-every, every-all, all-map}

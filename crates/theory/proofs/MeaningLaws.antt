@@ -5,13 +5,13 @@ use mathlib.Core.Bool.{Bool, true, false, not, Bool·beq}
 use mathlib.Core.List.{List, [], _∷_, map}
 use mathlib.Core.Logic.{_↔_}
 use lib.Dec.{T}
-use Rattle.question.specs.declared.statements.Statement.{Statement}
-use Rattle.question.specs.declared.statements.Statement.the-variants.{ElementsEqual, ElementsDiffer, In, NotIn, SetsEqual, SetsDiffer, Empty, Single, Union, Intersection, Difference}
-use Rattle.question.specs.declared.admissions.NameTest.the-variants.{Declared}
-use Rattle.question.specs.Admissions.{nameTest}
+use Rattle.statement.specs.declared.statements.Statement.{Statement}
+use Rattle.statement.specs.declared.statements.Statement.the-variants.{ElementsEqual, ElementsDiffer, In, NotIn, SetsEqual, SetsDiffer, Empty, Single, Union, Intersection, Difference}
+use Rattle.statement.specs.declared.name_tests.NameTest.the-variants.{Declared}
+use Rattle.statement.specs.NameTests.{nameTest}
 use Rattle.question.specs.Checks.{AllDeclared}
 use Rattle.question.specs.Masks.{bit}
-use Rattle.question.specs.Meaning.{Assignment, everywhere, holds, AllHold}
+use Rattle.statement.specs.Meaning.{Assignment, everywhere, holds, AllHold}
 use Rattle.theory.specs.Sets.{passes, fits}
 use Rattle.theory.specs.Reduction.{rule}
 use Rattle.theory.specs.Possible.{elementOf}

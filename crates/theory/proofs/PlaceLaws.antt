@@ -6,18 +6,17 @@ use mathlib.Core.List.{List, [], _∷_, map}
 use native.Mathlib.Omega.{arith}
 use lib.Dec.{T, ltb, ltb→lt, lt→ltb}
 use Rattle.outcome.proofs.Never.{never}
-use Rattle.question.specs.declared.statements.Statement.{Statement}
-use Rattle.question.specs.declared.statements.Statement.the-variants.{ElementsEqual, ElementsDiffer, In, NotIn, SetsEqual, SetsDiffer, Empty, Single, Union, Intersection, Difference}
-use Rattle.question.specs.declared.admissions.NameTest.the-variants.{Declared, Undeclared}
-use Rattle.question.specs.Statements.{Name, element, set as setName, namesOf}
-use Rattle.question.specs.Questions.{witness, witnesses}
-use Rattle.question.specs.Admissions.{declared, leftmost, nameTest}
+use Rattle.statement.specs.declared.statements.Statement.{Statement}
+use Rattle.statement.specs.declared.statements.Statement.the-variants.{ElementsEqual, ElementsDiffer, In, NotIn, SetsEqual, SetsDiffer, Empty, Single, Union, Intersection, Difference}
+use Rattle.statement.specs.declared.name_tests.NameTest.the-variants.{Declared, Undeclared}
+use Rattle.statement.specs.Statements.{Name, element, set as setName, namesOf, witness, witnesses}
+use Rattle.statement.specs.NameTests.{declared, leftmost, nameTest}
 use Rattle.question.specs.Checks.{AllDeclared}
 use Rattle.theory.specs.Lists.{Every}
 use Rattle.theory.specs.Rules.{Row, Rule, OneTerm, EachTerm, OwnWitness, ownWitness}
 use Rattle.theory.specs.Sets.{Test, IsSame, IsNotSame, IsIn, IsNotIn, ExactlyIfIn, ExactlyIfNotIn, ExactlyIfSame, ExactlyIfOr, ExactlyIfAnd, ExactlyIfAndNot, passes, Place, term, set, placesOf, kindOf, testWith, placeDeclared, placesDeclared, rowDeclared}
 use Rattle.theory.specs.Reduction.{rule}
-use Rattle.question.proofs.TestLaws.{and-left, and-right}
+use Rattle.statement.proofs.TestLaws.{and-left, and-right}
 use Rattle.theory.proofs.ListLaws.{every-map, all-every, all-map}
 use Rattle.theory.proofs.RuleLaws.{ownWitnesses, RuleNamed, RulesNamed}
 

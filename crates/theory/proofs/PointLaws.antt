@@ -8,7 +8,7 @@ use borrow.Author.Tests.{eqb-true, eq-eqb}
 use lib.Dec.{eqb}
 use lib.ListN.{length, getD}
 use Rattle.theory.specs.Arrangements.{MayFollow, IsArrangement, classesAfter, classes, classOf}
-use Rattle.question.proofs.TestLaws.{same-eqb}
+use Rattle.statement.proofs.TestLaws.{same-eqb}
 use Rattle.theory.proofs.ArrangementLaws.{class-has-term}
 
 -- where p first stands in rs, or the length if it does not

@@ -8,7 +8,7 @@ use native.Mathlib.Omega.{arith}
 use lib.Dec.{T, ltb, ltb→lt, lt→ltb}
 use lib.ListN.{length, length-map}
 use Rattle.question.specs.Masks.{bit}
-use Rattle.question.proofs.TestLaws.{and-both}
+use Rattle.statement.proofs.TestLaws.{and-both}
 use Rattle.theory.specs.Arrangements.{classes, classOf, inClass}
 use Rattle.theory.specs.Rules.{Row, row}
 use Rattle.theory.specs.Solutions.{Solution, maskOf, allRows, met}

@@ -14,7 +14,7 @@ use Rattle.theory.specs.Rules.{Row}
 use Rattle.theory.specs.Solutions.{allRows}
 use Rattle.theory.specs.Sets.{Test, placesOf, placesDeclared, rowDeclared}
 use Rattle.theory.specs.Reduction.{rule, rowList}
-use Rattle.question.proofs.TestLaws.{and-both}
+use Rattle.statement.proofs.TestLaws.{and-both}
 use Rattle.theory.proofs.ListLaws.{every-map, all-every, every-all}
 use Rattle.theory.proofs.RuleLaws.{TermsBelow, rules-few, RowNamed, rows-named}
 use Rattle.theory.proofs.PlaceLaws.{declared-term, Named, places-more, rules-named}

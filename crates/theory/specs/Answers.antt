@@ -4,7 +4,7 @@ use mathlib.Core.Option.{Option}
 use Rattle.question.specs.declared.questions.Question.{Question}
 use Rattle.question.specs.Masks.{bit}
 use Rattle.question.specs.Questions.{termsOf}
-use Rattle.question.specs.Meaning.{Assignment}
+use Rattle.statement.specs.Meaning.{Assignment}
 use Rattle.theory.specs.Arrangements.{classes, classOf}
 use Rattle.theory.specs.Solutions.{Solution, maskOf, IsSolution}
 use Rattle.theory.specs.FirstModels.{firstModel, IsFirstModel}

@@ -3,7 +3,7 @@ use Prim.Native.Nat.{ℕ}
 use mathlib.Core.Bool.{Bool}
 use Rattle.question.specs.declared.questions.Question.{Question}
 use Rattle.question.specs.Questions.{statements}
-use Rattle.question.specs.Meaning.{Assignment, IsAssignment, AllHold}
+use Rattle.statement.specs.Meaning.{Assignment, IsAssignment, AllHold}
 use Rattle.theory.specs.Arrangements.{classOf}
 use Rattle.theory.specs.Patterns.{HasPattern}
 use Rattle.theory.specs.Solutions.{Solution}

@@ -1,7 +1,7 @@
 -- The reduction: the rule of each statement, and the row list of a question.
 use mathlib.Core.List.{List, map}
-use Rattle.question.specs.declared.statements.Statement.{Statement}
-use Rattle.question.specs.declared.statements.Statement.the-variants.{ElementsEqual, ElementsDiffer, In, NotIn, SetsEqual, SetsDiffer, Empty, Single, Union, Intersection, Difference}
+use Rattle.statement.specs.declared.statements.Statement.{Statement}
+use Rattle.statement.specs.declared.statements.Statement.the-variants.{ElementsEqual, ElementsDiffer, In, NotIn, SetsEqual, SetsDiffer, Empty, Single, Union, Intersection, Difference}
 use Rattle.question.specs.declared.questions.Question.{Question}
 use Rattle.question.specs.Questions.{statements, termsOf}
 use Rattle.theory.specs.Rules.{Row, Rule, OneTerm, EachTerm, OwnWitness, rowsOfRules}

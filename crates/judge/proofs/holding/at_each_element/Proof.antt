@@ -5,8 +5,8 @@ use mathlib.Core.Bool.{true}
 use native.Mathlib.Omega.{arith}
 use borrow.Author.Needs.{needs}
 use borrow.Author.Tests.{not-true, not-false}
-use Rattle.question.specs.Meaning.{everywhere}
-use Rattle.question.proofs.EverywhereLaws.{walk-none, walk-more, walk-ends, walk-fails}
+use Rattle.statement.specs.Meaning.{everywhere}
+use Rattle.statement.proofs.EverywhereLaws.{walk-none, walk-more, walk-ends, walk-fails}
 use Rattle.judge.specs.Models.{assigned}
 use Rattle.judge.specs.Elements.{atElement}
 use Rattle.judge.proofs.holding.at_each_element.Statement.{statement}

@@ -7,7 +7,7 @@ use borrow.Author.Needs.{needs}
 use borrow.Author.Tests.{not-true, not-false}
 use lib.ListN.{length}
 use Rattle.question.specs.Questions.{idle}
-use Rattle.question.specs.Meaning.{holds}
+use Rattle.statement.specs.Meaning.{holds}
 use Rattle.question.proofs.StatementsLaws.{table-long}
 use Rattle.judge.specs.declared.judging.Judgement.the-variants.{No}
 use Rattle.judge.specs.Models.{assigned}

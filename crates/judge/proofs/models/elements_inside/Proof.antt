@@ -7,8 +7,8 @@ use borrow.Author.Needs.{needs}
 use borrow.Author.Tests.{lt-ltb, le-ltb}
 use lib.Dec.{ltb}
 use lib.ListN.{getD}
-use Rattle.question.specs.Meaning.{everywhere}
-use Rattle.question.proofs.EverywhereLaws.{walk-none, walk-more, walk-ends, walk-fails}
+use Rattle.statement.specs.Meaning.{everywhere}
+use Rattle.statement.proofs.EverywhereLaws.{walk-none, walk-more, walk-ends, walk-fails}
 use Rattle.judge.specs.Models.{elementsInside}
 use Rattle.judge.proofs.models.elements_inside.Statement.{statement}
 use Rattle.judge.proofs.models.elements_inside.Tie as tie

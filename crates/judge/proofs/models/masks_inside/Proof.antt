@@ -7,8 +7,8 @@ use borrow.Author.Needs.{needs}
 use borrow.Author.Tests.{not-true, not-false}
 use lib.Dec.{ltb}
 use lib.ListN.{getD}
-use Rattle.question.specs.Meaning.{everywhere}
-use Rattle.question.proofs.EverywhereLaws.{walk-none, walk-more, walk-ends, walk-fails}
+use Rattle.statement.specs.Meaning.{everywhere}
+use Rattle.statement.proofs.EverywhereLaws.{walk-none, walk-more, walk-ends, walk-fails}
 use Rattle.judge.specs.Models.{masksInside}
 use Rattle.judge.proofs.models.masks_inside.Statement.{statement}
 use Rattle.judge.proofs.models.masks_inside.Tie as tie

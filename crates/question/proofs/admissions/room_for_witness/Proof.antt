@@ -4,7 +4,7 @@ use mathlib.Core.Path.{sym, _∙_}
 use native.Mathlib.Omega.{arith}
 use borrow.Author.Needs.{needs}
 use borrow.Author.Tests.{eq-eqb, ne-eqb, lt-ltb, le-ltb}
-use Rattle.question.specs.Statements.{tagOf}
+use Rattle.statement.specs.Statements.{tagOf}
 use Rattle.question.specs.Limits.{maxTerms}
 use Rattle.question.proofs.admissions.room_for_witness.Statement.{statement}
 use Rattle.question.proofs.admissions.room_for_witness.Tie as tie

@@ -5,7 +5,8 @@ use native.Mathlib.Omega.{arith}
 use borrow.Author.Needs.{needs}
 use lib.ListN.{length, getD}
 use Rattle.outcome.specs.declared.checks.Check.the-variants.{Refused}
-use Rattle.question.specs.Questions.{idle, witness}
+use Rattle.question.specs.Questions.{idle}
+use Rattle.statement.specs.Statements.{witness}
 use Rattle.question.specs.Admissions.{admission, admittedAt}
 use Rattle.outcome.specs.declared.checks.Check.{Check}
 use Rattle.outcome.specs.Checks.{acceptedThen}

@@ -6,7 +6,7 @@ use native.Mathlib.Omega.{arith}
 use borrow.Author.Needs.{needs}
 use lib.ListN.{length, take, replicate, length-append}
 use lib.Seq.{length-take-le}
-use Rattle.question.specs.Statements.{tagOf}
+use Rattle.statement.specs.Statements.{tagOf}
 use Rattle.field.specs.Writes.{fieldCount, fieldOver}
 use Rattle.field.proofs.WriteLaws.{written}
 use Rattle.question_file.specs.Bodies.{bodyOf}

@@ -6,7 +6,8 @@ use mathlib.Core.List.{List, _++_}
 use native.Mathlib.Omega.{arith}
 use borrow.Author.Needs.{needs}
 use lib.ListN.{length, getD, length-take, length-drop, length-append}
-use Rattle.question.specs.Questions.{idle, witness}
+use Rattle.question.specs.Questions.{idle}
+use Rattle.statement.specs.Statements.{witness}
 use Rattle.question.proofs.StatementsLaws.{witness-small, table-long}
 use Rattle.outcome.proofs.OverLaws.{Run, run-start, run-room, run-next, run-end}
 use Rattle.reduction.specs.Writing.{statementRows}

@@ -7,7 +7,7 @@ use borrow.Author.Needs.{needs}
 use borrow.Author.Tests.{eq-eqb}
 use lib.Dec.{T, eqb}
 use Rattle.question.specs.Masks.{bit}
-use Rattle.question.proofs.TestLaws.{T-true}
+use Rattle.statement.proofs.TestLaws.{T-true}
 use Rattle.question.proofs.BitLaws.{bit-alone, only-bit}
 use Rattle.search.proofs.asked.asked_besides.Statement.{statement}
 use Rattle.search.proofs.asked.asked_besides.Tie as tie

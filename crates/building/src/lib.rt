@@ -1,0 +1,7 @@
+// The steps by which a question is built: names declared, one statement more, one statement less.
+mod builds;
+
+pub use builds::Built;
+pub use builds::add;
+pub use builds::declare;
+pub use builds::drop_statement;

@@ -1,0 +1,4 @@
+-- Laws that belong to no one function.
+pub mod TestLaws
+pub mod EverywhereLaws
+pub mod OneResultLaws
