@@ -81,7 +81,7 @@ kindOf (ExactlyIfAndNot x y z) = 9
 abbrev pub testsOf : ℕ → ℕ → ℕ → List Test
 testsOf x y z = IsSame x ∷ IsNotSame x ∷ IsIn x ∷ IsNotIn x ∷ ExactlyIfIn x y ∷ ExactlyIfNotIn x y ∷ ExactlyIfSame x y ∷ ExactlyIfOr x y z ∷ ExactlyIfAnd x y z ∷ ExactlyIfAndNot x y z ∷ []
 
--- the test that a kind and three numbers say; a kind above 9 says nothing, and is refused before anybody asks
+-- the test that a kind and three numbers say; rows of a kind above 9 are refused, and a number above 9 reads as kind 0
 abbrev pub testOf : ℕ → ℕ → ℕ → ℕ → Test
 testOf kind x y z = getD (testsOf x y z) kind (IsSame x)
 
