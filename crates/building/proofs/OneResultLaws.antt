@@ -3,7 +3,7 @@ use Rattle.outcome.specs.OneResult.{OneResult}
 use Rattle.outcome.proofs.OneLaw.{both}
 use Rattle.building.proofs.builds.declare.Reads as declare
 use Rattle.building.proofs.builds.add.Reads as add
-use Rattle.building.proofs.builds.drop_statement.Reads as drop-statement
+use Rattle.building.proofs.builds.drop_statements.Reads as drop-statements
 
 declare-one : OneResult declare.Learnt
 declare-one κs given x y s t = both
@@ -11,5 +11,5 @@ declare-one κs given x y s t = both
 add-one : OneResult add.Learnt
 add-one κs given x y s t = both
 
-drop-statement-one : OneResult drop-statement.Learnt
-drop-statement-one κs given x y s t = both
+drop-statements-one : OneResult drop-statements.Learnt
+drop-statements-one κs given x y s t = both

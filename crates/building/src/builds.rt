@@ -1,4 +1,4 @@
-// Building a question: names declared, one statement more, and the statement at an index dropped.
+// Building a question: names declared, one statement more, and a run of statements dropped.
 use outcome::Check;
 use outcome::Refusal;
 use question::Question;
@@ -7,6 +7,9 @@ use question::admit;
 use question::terms;
 use statement::Statement;
 ghost use mathlib.Core.Path.{_≡_};
+ghost use mathlib.Core.Bool.{true, false};
+ghost use mathlib.Core.Logic.{_⊎_};
+ghost use Prim.Native.Nat.{_+_, _≤_, _<_};
 ghost use Rattle.question.specs.Builds.{declaring, dropped};
 ghost use Rattle.building.specs.Additions.{addedTo};
 
@@ -55,9 +58,19 @@ pub fn add(q: Question, s: Statement) -> Built
     }
 }
 
-// The question without the statement at an index; the statements behind it move up by one.
-pub fn drop_statement(q: Question, i: usize) -> Question
-    ensures { λ r. ⌜ r ≡ dropped q i ⌝ }
+// Does the index j stand outside the run of n indexes from i on.
+fn outside(j: usize, i: usize, n: usize) -> bool
+    ensures { λ r. ⌜ (r ≡ true → (j < i) ⊎ (i + n ≤ j)) × (r ≡ false → (i ≤ j) × (j < i + n)) ⌝ }
+{
+    if j < i {
+        return true;
+    }
+    n <= j - i
+}
+
+// The question without n statements from the index i on; the statements behind them move up.
+pub fn drop_statements(q: Question, i: usize, n: usize) -> Question
+    ensures { λ r. ⌜ r ≡ dropped q i n ⌝ }
 {
     let count = q.count;
     let mut rest = declare(q.elements, q.sets);
@@ -66,7 +79,7 @@ pub fn drop_statement(q: Question, i: usize) -> Question
         if count <= j {
             break;
         }
-        if j != i {
+        if outside(j, i, n) {
             let at = rest.count;
             let entry = q.table[j];
             rest.table[at] = entry;

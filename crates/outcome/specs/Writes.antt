@@ -1,6 +1,6 @@
 -- A call that writes into a lent buffer: what it answers, and the buffer that it leaves.
 use Prim.Native.Nat.{ℕ}
-use mathlib.Core.Bool.{cond}
+use mathlib.Core.Bool.{Bool, cond}
 use mathlib.Core.List.{List, _++_}
 use lib.Dec.{ltb}
 use lib.ListN.{length, drop}
@@ -14,13 +14,17 @@ use Rattle.outcome.specs.Checks.{acceptedThen}
 abbrev pub over : List ℕ → List ℕ → List ℕ
 over written old = written ++ drop (length written) old
 
+-- is there less room than what must be written takes
+abbrev pub tooShort : List ℕ → ℕ → Bool
+tooShort written room = ltb room (length written)
+
 -- fits or 10: the answer to what must be written where there is room for so many
 abbrev pub fitted : List ℕ → ℕ → Written
-fitted written room = cond (ltb room (length written)) (Refused (refusal bufferTooShort 0)) (Count (length written))
+fitted written room = cond (tooShort written room) (Refused (refusal bufferTooShort 0)) (Count (length written))
 
 -- and the buffer: what is written over what was there, or what was there
 abbrev pub fittedOver : List ℕ → List ℕ → List ℕ
-fittedOver written old = cond (ltb (length old) (length written)) old (over written old)
+fittedOver written old = cond (tooShort written (length old)) old (over written old)
 
 -- the same behind a check, whose refusal comes first
 abbrev pub checkedThen : Check → Written → Written

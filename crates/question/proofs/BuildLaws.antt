@@ -1,17 +1,18 @@
--- A question built step by step: one statement more, one statement less, its statements and its terms.
-use Prim.Native.Nat.{ℕ, zero, suc, _+_, _-_, _≤_, _<_}
+-- A question built step by step: one statement more, a run of statements less, its statements and its terms.
+use Prim.Native.Nat.{ℕ, suc, _+_, _-_, _≤_, _<_}
 use mathlib.Core.Path.{_≡_, refl, sym, ap, ap₂, _∙_}
-use mathlib.Core.Logic.{_≢_}
-use mathlib.Core.List.{List, [], _∷_, _++_, map, map-append, append-assoc}
+use mathlib.Core.List.{List, [], _∷_, _++_, map, map-append, append-assoc, append-nil}
 use native.Mathlib.Omega.{arith}
-use lib.ListN.{length, getD, take, replicate, set, length-append, length-map, length-take}
-use lib.Seq.{set-at, take-at, take-all, length-take-le}
+use lib.ListN.{length, getD, take, drop, replicate, set, length-append, length-map, length-take, length-drop, drop-of-length-le}
+use lib.Seq.{set-at, take-at, take-all, take-nil, drop-nil, length-take-le, take-append-le, drop-append-le, take-append-seam, drop-append-add}
 use Rattle.statement.specs.declared.statements.Statement.{Statement}
 use Rattle.question.specs.declared.questions.Record.{Record}
 use Rattle.question.specs.declared.questions.Question.{Question}
 use Rattle.question.specs.Limits.{maxStatements}
 use Rattle.question.specs.Questions.{idle, emptyQuestion, questionOf, statements, termsOf}
 use Rattle.statement.specs.Statements.{witnesses}
+use Rattle.statement.specs.Among.{Among}
+use Rattle.statement.proofs.AmongLaws.{among-both, among-take, among-drop}
 use Rattle.question.specs.Builds.{unusedTable, declaring, added, without, dropped}
 use Rattle.question.proofs.StatementsLaws.{statements-length, statements-more}
 
@@ -59,59 +60,76 @@ module _ (E S : ℕ) (ss : List Statement) where
     unfolding termsOf
     terms-of = ap (λ l. E + witnesses l) statements-of
 
--- a list without an entry, where one more entry comes behind
+-- a list without a run of its entries
 module _ {A : Type 0} where
-  pub without-other : (l : List A) (x : A) (i : ℕ) → length l ≢ i → without i (l ++ (x ∷ [])) ≡ without i l ++ (x ∷ [])
-  without-other [] x zero h = absurd (h refl)
-  without-other [] x (suc i) h = refl
-  without-other (y ∷ l) x zero h = refl
-  without-other (y ∷ l) x (suc i) h = ap (λ m. y ∷ m) (without-other l x i (λ e. h (ap suc e)))
+  pub without-shorter : (i n : ℕ) (l : List A) → length (without i n l) ≤ length l
+  without-shorter i n l = omega (arith, length-append (take i l) (drop (i + n) l), length-take i l, length-drop (i + n) l)
 
-  pub without-own : (l : List A) (x : A) (i : ℕ) → length l ≡ i → without i (l ++ (x ∷ [])) ≡ without i l
-  without-own [] x zero h = refl
-  without-own [] x (suc i) h = absurd (omega arith)
-  without-own (y ∷ l) x zero h = absurd (omega arith)
-  without-own (y ∷ l) x (suc i) h = ap (λ m. y ∷ m) (without-own l x i (omega arith))
+  -- where one more entry comes behind: it is left out if it stands in the run
+  module _ (l : List A) (x : A) (i n : ℕ) where
+    size : length (l ++ (x ∷ [])) ≡ length l + 1
+    size = length-append l (x ∷ [])
 
-  pub without-shorter : (l : List A) (i : ℕ) → length (without i l) ≤ length l
-  without-shorter [] i = omega arith
-  without-shorter (x ∷ l) zero = omega arith
-  without-shorter (x ∷ l) (suc i) = omega (arith, without-shorter l i)
+    pub without-inside : i ≤ length l → length l < i + n → without i n (l ++ (x ∷ [])) ≡ without i n l
+    without-inside h k = ap₂ (λ a b. a ++ b) (take-append-le i l (x ∷ []) h) (drop-of-length-le (l ++ (x ∷ [])) {i = i + n} (omega (arith, size)) ∙ sym (drop-of-length-le l {i = i + n} (omega arith)))
 
--- the statements of a question without one of them
-pub dropped-statements : (q : Question) (i : ℕ) → length (q .table) ≡ maxStatements → statements (dropped q i) ≡ without i (statements q)
+    pub without-before : length l < i → without i n (l ++ (x ∷ [])) ≡ without i n l ++ (x ∷ [])
+    without-before h =
+        ap₂ (λ a b. a ++ b) (take-all i (l ++ (x ∷ [])) (omega (arith, size))) (drop-of-length-le (l ++ (x ∷ [])) {i = i + n} (omega (arith, size)))
+        ∙ append-nil (l ++ (x ∷ []))
+        ∙ sym (ap (λ a. a ++ (x ∷ [])) (ap₂ (λ a b. a ++ b) (take-all i l (omega arith)) (drop-of-length-le l {i = i + n} (omega arith)) ∙ append-nil l))
+
+    pub without-behind : i + n ≤ length l → without i n (l ++ (x ∷ [])) ≡ without i n l ++ (x ∷ [])
+    without-behind h = ap₂ (λ a b. a ++ b) (take-append-le i l (x ∷ []) (omega arith)) (drop-append-le (i + n) l (x ∷ []) h) ∙ sym (append-assoc (take i l) (drop (i + n) l) (x ∷ []))
+
+  -- a run that begins where the front ends
+  pub without-after : (a b : List A) (n : ℕ) → without (length a) n (a ++ b) ≡ a ++ drop n b
+  without-after a b n = ap₂ (λ x y. x ++ y) (take-append-seam a b) (drop-append-add a b n)
+
+  pub without-among : (i n : ℕ) (l : List A) → Among (without i n l) l
+  without-among i n l = among-both (take i l) (drop (i + n) l) l (among-take i l) (among-drop (i + n) l)
+
+-- the statements of a question without a run of them
+pub dropped-statements : (q : Question) (i n : ℕ) → q .count ≤ maxStatements → statements (dropped q i n) ≡ without i n (statements q)
 unfolding dropped
-dropped-statements q i long = statements-of (q .elements) (q .sets) (without i (statements q)) (omega (arith, without-shorter (statements q) i, statements-length q))
+dropped-statements q i n few = statements-of (q .elements) (q .sets) (without i n (statements q)) (omega (arith, without-shorter i n (statements q), statements-length q))
 
--- the walk that copies all statements but that at i: one turn, and the end
-module _ (q : Question) (i : ℕ) (long : length (q .table) ≡ maxStatements) where
+-- the walk that copies all statements but n from i on: one turn, and the end
+module _ (q : Question) (i n : ℕ) (long : length (q .table) ≡ maxStatements) where
   abbrev pub keptOf : ℕ → Question
-  keptOf j = questionOf (q .elements) (q .sets) (without i (take j (statements q)))
+  keptOf j = questionOf (q .elements) (q .sets) (without i n (take j (statements q)))
 
-  kept-few : (j : ℕ) → length (without i (take j (statements q))) ≤ j
-  kept-few j = omega (arith, without-shorter (take j (statements q)) i, length-take j (statements q))
+  kept-few : (j : ℕ) → length (without i n (take j (statements q))) ≤ j
+  kept-few j = omega (arith, without-shorter i n (take j (statements q)), length-take j (statements q))
 
   module _ (j : ℕ) (d : Record) (below : j < q .count) (inside : j < maxStatements) where
-    size : length (take j (statements q)) ≡ j
-    size = length-take-le j (statements q) (omega (arith, statements-length q, long))
+    upto : length (take j (statements q)) ≡ j
+    upto = length-take-le j (statements q) (omega (arith, statements-length q, long))
 
     more : take (j + 1) (statements q) ≡ take j (statements q) ++ (getD (q .table) j d .statement ∷ [])
     more = statements-more q j d below (omega (arith, long))
 
-    pub kept-other : j ≢ i → added (keptOf j) (getD (q .table) j d .statement) ≡ keptOf (j + 1)
-    kept-other h =
-        added-of (q .elements) (q .sets) (without i (take j (statements q))) (getD (q .table) j d .statement) (omega (arith, kept-few j))
-        ∙ ap (questionOf (q .elements) (q .sets)) (sym (ap (without i) more ∙ without-other (take j (statements q)) (getD (q .table) j d .statement) i (λ e. h (sym size ∙ e))))
+    one-more : without i n (take j (statements q) ++ (getD (q .table) j d .statement ∷ [])) ≡ without i n (take j (statements q)) ++ (getD (q .table) j d .statement ∷ []) →
+        added (keptOf j) (getD (q .table) j d .statement) ≡ keptOf (j + 1)
+    one-more e =
+        added-of (q .elements) (q .sets) (without i n (take j (statements q))) (getD (q .table) j d .statement) (omega (arith, kept-few j))
+        ∙ ap (questionOf (q .elements) (q .sets)) (sym (ap (without i n) more ∙ e))
 
-    pub kept-own : j ≡ i → keptOf j ≡ keptOf (j + 1)
-    kept-own h = ap (questionOf (q .elements) (q .sets)) (sym (ap (without i) more ∙ without-own (take j (statements q)) (getD (q .table) j d .statement) i (size ∙ h)))
+    pub kept-before : j < i → added (keptOf j) (getD (q .table) j d .statement) ≡ keptOf (j + 1)
+    kept-before h = one-more (without-before (take j (statements q)) (getD (q .table) j d .statement) i n (omega (arith, upto)))
+
+    pub kept-behind : i + n ≤ j → added (keptOf j) (getD (q .table) j d .statement) ≡ keptOf (j + 1)
+    kept-behind h = one-more (without-behind (take j (statements q)) (getD (q .table) j d .statement) i n (omega (arith, upto)))
+
+    pub kept-inside : i ≤ j → j < i + n → keptOf j ≡ keptOf (j + 1)
+    kept-inside h k = ap (questionOf (q .elements) (q .sets)) (sym (ap (without i n) more ∙ without-inside (take j (statements q)) (getD (q .table) j d .statement) i n (omega (arith, upto)) (omega (arith, upto))))
 
   pub kept-none : keptOf 0 ≡ declaring (q .elements) (q .sets)
-  kept-none = sym (declaring-of (q .elements) (q .sets))
+  kept-none = ap (questionOf (q .elements) (q .sets)) (ap₂ (λ a b. a ++ b) (take-nil i) (drop-nil (i + n))) ∙ sym (declaring-of (q .elements) (q .sets))
 
-  pub kept-all : (j : ℕ) → length (statements q) ≤ j → keptOf j ≡ dropped q i
+  pub kept-all : (j : ℕ) → length (statements q) ≤ j → keptOf j ≡ dropped q i n
   unfolding dropped
-  kept-all j h = ap (λ l. questionOf (q .elements) (q .sets) (without i l)) (take-all j (statements q) h)
+  kept-all j h = ap (λ l. questionOf (q .elements) (q .sets) (without i n l)) (take-all j (statements q) h)
 
   pub kept-count : (j : ℕ) → keptOf j .count ≤ j
   kept-count j = kept-few j

@@ -4,6 +4,7 @@ pub mod StatementsLaws
 pub mod AdmissionLaws
 pub mod CheckLaws
 pub mod BuildLaws
+pub mod DroppedLaws
 pub mod AcceptedLaws
 pub mod SoundLaws
 pub mod NamesLaws

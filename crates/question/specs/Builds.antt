@@ -1,7 +1,7 @@
--- Questions built step by step: with names alone, with one statement more, without the statement at an index.
-use Prim.Native.Nat.{ℕ, zero, suc, _+_}
-use mathlib.Core.List.{List, [], _∷_}
-use lib.ListN.{replicate, set}
+-- Questions built step by step: with names alone, with one statement more, without a run of statements.
+use Prim.Native.Nat.{ℕ, _+_}
+use mathlib.Core.List.{List, _++_}
+use lib.ListN.{take, drop, replicate, set}
 use Rattle.statement.specs.declared.statements.Statement.{Statement}
 use Rattle.question.specs.declared.questions.Record.{Record}
 use Rattle.question.specs.declared.questions.Question.{Question}
@@ -20,12 +20,10 @@ declaring E S = record { elements = E; sets = S; count = 0; table = unusedTable 
 abbrev pub added : Question → Statement → Question
 added q s = record { elements = q .elements; sets = q .sets; count = q .count + 1; table = set (q .table) (q .count) (record { statement = s }) }
 
--- a list without its entry i
-abbrev pub without : {A : Type 0} → ℕ → List A → List A
-without i [] = []
-without zero (x ∷ l) = l
-without (suc i) (x ∷ l) = x ∷ without i l
+-- a list without the n entries from i on
+abbrev pub without : {A : Type 0} → ℕ → ℕ → List A → List A
+without i n l = take i l ++ drop (i + n) l
 
--- the question without the statement at the index i: the others in their order
-unfoldable pub dropped : Question → ℕ → Question
-dropped q i = questionOf (q .elements) (q .sets) (without i (statements q))
+-- the question without the n statements from the index i on: the others in their order
+unfoldable pub dropped : Question → ℕ → ℕ → Question
+dropped q i n = questionOf (q .elements) (q .sets) (without i n (statements q))

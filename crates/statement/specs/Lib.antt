@@ -2,3 +2,4 @@
 pub mod Statements
 pub mod NameTests
 pub mod Meaning
+pub mod Among

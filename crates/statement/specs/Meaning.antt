@@ -47,3 +47,13 @@ module _ (A : Assignment) where
   abbrev pub AllHold : List Statement → Type 0
   AllHold [] = Unit {0}
   AllHold (s ∷ ss) = T (holds s) × AllHold ss
+
+-- no assignment over any finite domain meets the statements
+abbrev pub CantHold : ℕ → List Statement → Type 0
+CantHold E ss = (A : Assignment) → IsAssignment E A → AllHold A ss → ⊥
+
+-- some assignment over a finite domain does
+pub record CanHold (E : ℕ) (ss : List Statement) : Type 0 where
+  pub by : Assignment
+  pub assignment : IsAssignment E by
+  pub holding : AllHold by ss
