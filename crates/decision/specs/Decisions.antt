@@ -3,12 +3,19 @@ use Rattle.outcome.specs.declared.refusals.Refusal.{Refusal}
 use Rattle.outcome.specs.declared.checks.Check.the-variants.{Accepted, Refused}
 use Rattle.outcome.specs.Checks.{acceptedThen}
 use Rattle.question.specs.declared.questions.Question.{Question}
+use Rattle.question.specs.Questions.{termsOf}
 use Rattle.question.specs.Checks.{checked}
 use Rattle.theory.specs.Answers.{answer}
+use Rattle.reduction.specs.Reducing.{packedRows}
 use Rattle.search.specs.declared.answers.SearchAnswer.{SearchAnswer}
+use Rattle.search.specs.Answers.{searched}
 use Rattle.answer.specs.declared.answers.Answer.{Answer}
 use Rattle.answer.specs.Answers.{asAnswer, filler}
 use Rattle.decision.specs.declared.decisions.Decision.{Decision}
+
+-- what the search says of the rows of a table as it stands
+unfoldable pub tableSearched : Question → SearchAnswer
+tableSearched q = searched (termsOf q) (q .sets) (packedRows q)
 
 -- a refusal, with the filler beside it
 abbrev pub undecided : Refusal → Decision

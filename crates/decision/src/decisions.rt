@@ -1,15 +1,16 @@
-// A question value to its answer: the table is reduced to rows, and the rows are searched.
+// A question value to its answer: the table is checked, its rows are written, and the rows are searched.
 use answer::Answer;
 use outcome::Check;
 use outcome::Refusal;
 use outcome::Written;
 use question::Question;
+use question::check;
 use question::terms;
-use reduction::reduce;
+use reduction::write_rows;
 use search::SearchAnswer;
 use search::search;
 ghost use mathlib.Core.Path.{_≡_};
-ghost use Rattle.decision.specs.Decisions.{undecided, shown, decided};
+ghost use Rattle.decision.specs.Decisions.{tableSearched, undecided, shown, decided};
 
 // Whether the question is decided, and its answer. Where it is refused the answer is a filler, which never says "impossible".
 pub struct Decision {
@@ -54,16 +55,26 @@ fn show(found: SearchAnswer) -> Decision
     }
 }
 
+// What the search says of the rows of a table as it stands: no check of the table comes first.
+// Rows that aren't written belong to more than 12 terms, which the search refuses whatever the rows.
+pub fn search_table(q: Question) -> SearchAnswer
+    ensures { λ r. ⌜ r ≡ tableSearched q ⌝ }
+{
+    let mut rows: [u32; Question::MAX_ROWS] = [0; Question::MAX_ROWS];
+    let count = match write_rows(q, &mut rows) {
+        Written::Refused(_) => 0,
+        Written::Count(count) => count,
+    };
+    let n = terms(q);
+    search(&rows[..count], n, q.sets)
+}
+
 // The answer to a question: its first model, or that it is impossible; or why the table is refused.
 pub fn decide(q: Question) -> Decision
     ensures { λ r. ⌜ r ≡ decided q ⌝ }
 {
-    let mut rows: [u32; Question::MAX_ROWS] = [0; Question::MAX_ROWS];
-    match reduce(q, &mut rows) {
-        Written::Refused(refusal) => Decision::refused(refusal),
-        Written::Count(count) => {
-            let found = search(&rows[0..count], terms(q), q.sets);
-            show(found)
-        }
+    match check(q) {
+        Check::Refused(refusal) => Decision::refused(refusal),
+        Check::Accepted => show(search_table(q)),
     }
 }

@@ -5,3 +5,4 @@ mod decisions;
 pub use answers::answer_question;
 pub use decisions::Decision;
 pub use decisions::decide;
+pub use decisions::search_table;

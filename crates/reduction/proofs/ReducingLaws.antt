@@ -3,29 +3,21 @@ use Prim.Native.Nat.{ℕ, _+_, _≤_, _<_}
 use mathlib.Core.Path.{_≡_, refl, sym, ap, _∙_}
 use mathlib.Core.List.{List, [], _∷_, _++_, map, map-append}
 use native.Mathlib.Omega.{arith}
-use lib.ListN.{length, getD, drop, length-append, length-map}
+use lib.ListN.{length, getD, drop, length-append, length-map, drop-of-length-le}
 use Rattle.statement.specs.declared.statements.Statement.{Statement}
 use Rattle.question.specs.declared.questions.Record.{Record}
 use Rattle.question.specs.declared.questions.Question.{Question}
-use Rattle.outcome.specs.Writes.{over, fitted, fittedOver}
-use Rattle.outcome.proofs.WriteLaws.{fits, too-short}
-use Rattle.question.specs.Limits.{maxRows}
-use Rattle.outcome.specs.Refusals.{refusal, bufferTooShort}
+use Rattle.question.specs.Limits.{maxStatements, maxTerms, maxRows}
 use Rattle.question.specs.Questions.{statements, termsOf}
 use Rattle.statement.specs.Statements.{witness}
-use Rattle.outcome.specs.declared.refusals.Refusal.{Refusal}
-use Rattle.outcome.specs.declared.checks.Check.the-variants.{Refused}
-use Rattle.question.specs.Checks.{checked, IsAccepted}
-use Rattle.question.proofs.AcceptedLaws.{accepted}
-use Rattle.question.proofs.StatementsLaws.{statements-at, statements-end}
+use Rattle.question.proofs.StatementsLaws.{statements-length, statements-at}
 use Rattle.theory.specs.Rules.{rowsOfRules}
 use Rattle.theory.specs.Reduction.{rule, rowList}
 use Rattle.theory.proofs.PlaceLaws.{rule-witness}
-use Rattle.theory.proofs.RowListLaws.{rows-few}
+use Rattle.theory.proofs.RuleLaws.{rules-few}
 use Rattle.row.specs.Rows.{packRow}
-use Rattle.outcome.specs.declared.writes.Written.the-variants.{Count, Refused as NotWritten}
 use Rattle.reduction.specs.Writing.{statementRows}
-use Rattle.reduction.specs.Reducing.{packedRows, reduced, reducedOver}
+use Rattle.reduction.specs.Reducing.{packedRows}
 use Rattle.reduction.proofs.WritingLaws.{rows-written, written-count}
 
 -- the rows of some statements, packed: so many terms, w the next witness
@@ -51,24 +43,26 @@ module _ (q : Question) (terms : ℕ) where
   abbrev pub rowsFrom : ℕ → ℕ → List ℕ
   rowsFrom i w = rowsOf terms w (drop i (statements q))
 
-  pub from-turn : (i w : ℕ) (d : Record) → i < q .count → i < length (q .table) →
+  pub from-turn : (i w : ℕ) (d : Record) → i < length (statements q) →
       rowsFrom i w ≡ statementRows terms w (getD (q .table) i d .statement) ++ rowsFrom (i + 1) (w + witness (getD (q .table) i d .statement))
-  from-turn i w d below inside = ap (rowsOf terms w) (statements-at q i d below inside) ∙ rows-more terms w (getD (q .table) i d .statement) (drop (i + 1) (statements q))
+  from-turn i w d h =
+      let stands = statements-at q i d (omega (arith, statements-length q)) (omega (arith, statements-length q)) in
+      ap (rowsOf terms w) stands ∙ rows-more terms w (getD (q .table) i d .statement) (drop (i + 1) (statements q))
 
-  pub from-end : (i w : ℕ) → q .count ≤ i → rowsFrom i w ≡ []
-  from-end i w h = ap (rowsOf terms w) (statements-end q i h)
+  pub from-end : (i w : ℕ) → length (statements q) ≤ i → rowsFrom i w ≡ []
+  from-end i w h = ap (rowsOf terms w) (drop-of-length-le (statements q) {i = i} h)
 
   -- how many rows they are
   abbrev pub countFrom : ℕ → ℕ
   countFrom i = length (rowsFrom i 0)
 
-  pub count-turn : (i : ℕ) (d : Record) → i < q .count → i < length (q .table) → countFrom i ≡ length (statementRows terms 0 (getD (q .table) i d .statement)) + countFrom (i + 1)
-  count-turn i d below inside =
+  pub count-turn : (i : ℕ) (d : Record) → i < length (statements q) → countFrom i ≡ length (statementRows terms 0 (getD (q .table) i d .statement)) + countFrom (i + 1)
+  count-turn i d h =
       let s = getD (q .table) i d .statement in
-      ap length (from-turn i 0 d below inside) ∙ length-append (statementRows terms 0 s) (rowsFrom (i + 1) (0 + witness s))
+      ap length (from-turn i 0 d h) ∙ length-append (statementRows terms 0 s) (rowsFrom (i + 1) (0 + witness s))
       ∙ ap (λ n. length (statementRows terms 0 s) + n) (rows-same terms (0 + witness s) 0 (drop (i + 1) (statements q)))
 
-  pub count-end : (i : ℕ) → q .count ≤ i → countFrom i ≡ 0
+  pub count-end : (i : ℕ) → length (statements q) ≤ i → countFrom i ≡ 0
   count-end i h = ap length (from-end i 0 h)
 
 module _ (q : Question) where
@@ -79,24 +73,12 @@ module _ (q : Question) where
   pub packed-count : length (packedRows q) ≡ countFrom q (termsOf q) 0
   packed-count = ap length packed-from ∙ rows-same (termsOf q) (q .elements) 0 (statements q)
 
-  pub packed-few : IsAccepted q → length (packedRows q) ≤ maxRows
-  unfolding packedRows
-  packed-few accepted = rw (length-map (rowList q) packRow) (rows-few q accepted)
+  -- a table of 64 records has 64 statements at most
+  pub stated-few : length (q .table) ≡ maxStatements → length (statements q) ≤ maxStatements
+  stated-few long = omega (arith, statements-length q)
 
--- what a refused question is answered, and that the buffer then is as it was
-module _ (q : Question) (old : List ℕ) (r : Refusal) (is-refused : checked q ≡ Refused r) where
-  pub refused : (reduced q (length old) ≡ NotWritten r) × (reducedOver q old ≡ old)
-  unfolding reduced reducedOver
-  refused = rw is-refused (refl, refl)
-
--- what an accepted question is answered, and what the buffer then holds: fits or 10
-module _ (q : Question) (old : List ℕ) (is-accepted : IsAccepted q) where
-  pub fitting : (reduced q (length old) ≡ fitted (packedRows q) (length old)) × (reducedOver q old ≡ fittedOver (packedRows q) old)
-  unfolding reduced reducedOver
-  fitting = rw (accepted q .1 is-accepted) (refl, refl)
-
-  pub short : length old < length (packedRows q) → (reduced q (length old) ≡ NotWritten (refusal bufferTooShort 0)) × (reducedOver q old ≡ old)
-  short h = let s = too-short (packedRows q) old h in (fitting .0 ∙ s .0, fitting .1 ∙ s .1)
-
-  pub whole : length (packedRows q) ≤ length old → (reduced q (length old) ≡ Count (length (packedRows q))) × (reducedOver q old ≡ over (packedRows q) old)
-  whole h = let w = fits (packedRows q) old h in (fitting .0 ∙ w .0, fitting .1 ∙ w .1)
+  -- no table gives more than 768 rows: 64 statements, and 12 terms
+  pub packed-few : length (statements q) ≤ maxStatements → termsOf q ≤ maxTerms → length (packedRows q) ≤ maxRows
+  unfolding packedRows rowList
+  packed-few stated few =
+      omega (arith, length-map (rowList q) packRow, length-map (statements q) rule, rules-few maxTerms (termsOf q) (q .elements) (map rule (statements q)) (omega arith) few)

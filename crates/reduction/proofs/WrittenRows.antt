@@ -2,13 +2,12 @@
 -- The written rows say the row list again, of which the theory shows it.
 use Prim.Native.Nat.{ℕ, _≤_}
 use denote.Ref.{now}
-use mathlib.Core.Path.{_≡_, sym, ap, ap₂, subst, _∙_}
+use mathlib.Core.Path.{_≡_, sym, ap, subst, _∙_}
 use mathlib.Core.Bool.{Bool}
 use mathlib.Core.List.{List, map}
 use mathlib.Core.Logic.{_↔_}
 use native.Mathlib.Omega.{arith}
 use lib.ListN.{length, take}
-use lib.Seq.{take-append-seam}
 use Rattle.question.specs.declared.questions.Question.{Question}
 use Rattle.question.specs.Questions.{termsOf}
 use Rattle.question.specs.Checks.{checked, IsAccepted}
@@ -20,13 +19,11 @@ use Rattle.theory.specs.Sets.{fits}
 use Rattle.theory.specs.Answers.{maskBound}
 use Rattle.theory.specs.Possible.{Possible}
 use Rattle.theory.proofs.DemandThree.{demand-three}
-use Rattle.outcome.specs.Writes.{over}
 use Rattle.outcome.specs.Calls.{Call}
-use Rattle.outcome.proofs.OverLaws.{over-length}
 use Rattle.row.specs.Rows.{rowOf}
 use Rattle.outcome.specs.declared.writes.Written.the-variants.{Count}
 use Rattle.reduction.specs.Reducing.{packedRows, reduced, reducedOver}
-use Rattle.reduction.proofs.ReducingLaws.{whole}
+use Rattle.reduction.proofs.TableRows.{whole, table-stands, as-table}
 use Rattle.outcome.proofs.WriteLaws.{counted}
 use Rattle.reduction.proofs.ReducedRows.{rows-say}
 use Rattle.reduction.proofs.reducing.reduce.Reads as reduce
@@ -54,9 +51,8 @@ rows-told q room n e = let c = counted (checked q) (packedRows q) room n e in (a
 -- they stand at the front of the buffer
 pub rows-stand : (q : Question) (old new : List ℕ) (n : ℕ) → new ≡ reducedOver q old → reduced q (length old) ≡ Count n → (n ≤ length new) × (take n new ≡ packedRows q)
 rows-stand q old new n b e =
-    let t = rows-told q (length old) n e in
-    let left : new ≡ over (packedRows q) old = b ∙ whole q old (t .0) (omega (arith, t .1, t .2)) .1 in
-    (rw left (omega (arith, t .1, t .2, over-length (packedRows q) old (omega (arith, t .1, t .2)))), ap₂ take (t .1) left ∙ take-append-seam (packedRows q) _)
+    let same = as-table q old (accepted q .1 (rows-told q (length old) n e .0)) in
+    table-stands q old new n (b ∙ same .1) (sym (same .0) ∙ e)
 
 -- a call of `reduce`
 module _ (c : Call reduce.Learnt) where
@@ -74,7 +70,7 @@ module _ (c : Call reduce.Learnt) where
   pub reduces-exactly : (n : ℕ) → (c .result ≡ Count n) ↔ (IsAccepted question × (n ≡ length (packedRows question)) × (n ≤ length old))
   reduces-exactly n = (
     λ e. rows-told question (length old) n (sym (c .fits .0) ∙ e),
-    λ t. c .fits .0 ∙ whole question old (t .0) (omega (arith, t .1, t .2)) .0 ∙ ap Count (sym (t .1)),
+    λ t. c .fits .0 ∙ as-table question old (accepted question .1 (t .0)) .0 ∙ whole question old (t .0 .few-terms) (omega (arith, t .1, t .2)) .0 ∙ ap Count (sym (t .1)),
   )
 
   -- the first n numbers of its buffer, as rows, are solvable with a pattern exactly if some assignment with that pattern meets the statements

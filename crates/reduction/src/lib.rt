@@ -3,3 +3,4 @@ mod reducing;
 mod writing;
 
 pub use reducing::reduce;
+pub use reducing::write_rows;

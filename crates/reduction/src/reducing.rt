@@ -1,4 +1,5 @@
 // A question's rows into a lent buffer: the refusals of the table, then 10; else the rows in order, and their number.
+// The rows of a table that is checked already are written without the check.
 use crate::writing::put_statement;
 use outcome::Check;
 use outcome::Refusal;
@@ -12,10 +13,10 @@ ghost use mathlib.Core.Path.{_≡_};
 ghost use Prim.Native.Nat.{_≤_};
 ghost use lib.ListN.{length};
 ghost use Rattle.outcome.specs.Writes.{over};
-ghost use Rattle.question.specs.Questions.{termsOf};
-ghost use Rattle.question.specs.Checks.{IsAccepted};
+ghost use Rattle.question.specs.Limits.{maxStatements, maxTerms};
+ghost use Rattle.question.specs.Questions.{statements, termsOf};
 ghost use Rattle.reduction.specs.Writing.{statementRows};
-ghost use Rattle.reduction.specs.Reducing.{packedRows, reduced, reducedOver};
+ghost use Rattle.reduction.specs.Reducing.{packedRows, rowsWritten, rowsWrittenOver, reduced, reducedOver};
 
 // How many rows a statement gives: one for tags 10 to 13 and 21, else one for each term.
 fn row_count(s: Statement, terms: usize) -> usize
@@ -36,12 +37,23 @@ fn row_count(s: Statement, terms: usize) -> usize
     }
 }
 
-// How many rows the question gives.
-fn count_rows(q: Question, terms: usize) -> usize
-    requires { ⌜ IsAccepted q × (terms ≡ termsOf q) ⌝ }
-    ensures { λ r. ⌜ r ≡ length (packedRows q) ⌝ }
+// How many statements the table has: a count past its records counts those alone.
+fn statement_count(q: Question) -> usize
+    ensures { λ r. ⌜ (r ≡ length (statements q)) × (r ≤ maxStatements) ⌝ }
 {
     let count = q.count;
+    if Question::MAX_STATEMENTS < count {
+        return Question::MAX_STATEMENTS;
+    }
+    count
+}
+
+// How many rows the table gives.
+fn count_rows(q: Question, terms: usize) -> usize
+    requires { ⌜ (terms ≡ termsOf q) × (terms ≤ maxTerms) ⌝ }
+    ensures { λ r. ⌜ r ≡ length (packedRows q) ⌝ }
+{
+    let count = statement_count(q);
     let mut total: usize = 0;
     let mut i: usize = 0;
     while i < count {
@@ -55,10 +67,10 @@ fn count_rows(q: Question, terms: usize) -> usize
 
 // The rows of one statement behind those of the one before, each into the rest of the buffer.
 fn put_rows(q: Question, terms: usize, rows: &mut [u32])
-    requires { ⌜ IsAccepted q × (terms ≡ termsOf q) × (length (packedRows q) ≤ length (now rows)) ⌝ }
+    requires { ⌜ (terms ≡ termsOf q) × (terms ≤ maxTerms) × (length (packedRows q) ≤ length (now rows)) ⌝ }
     ensures { λ _. ⌜ now (rows .exit) ≡ over (packedRows q) (now (rows .entry)) ⌝ }
 {
-    let stated = q.count;
+    let stated = statement_count(q);
     let elements = q.elements;
     let mut witness = elements as usize;
     let mut at: usize = 0;
@@ -73,12 +85,14 @@ fn put_rows(q: Question, terms: usize, rows: &mut [u32])
     }
 }
 
-// The reduction of an accepted question: 10 where the buffer is too short.
-fn reduce_accepted(q: Question, rows: &mut [u32]) -> Written
-    requires { ⌜ IsAccepted q ⌝ }
-    ensures { λ r. ⌜ (r ≡ reduced q (length (now (rows .entry)))) × (now (rows .exit) ≡ reducedOver q (now (rows .entry))) ⌝ }
+// The rows of a table as it stands, packed, from the start of the buffer: 8 for more than 12 terms, then 10. Of each name the bits of a place's width count.
+pub fn write_rows(q: Question, rows: &mut [u32]) -> Written
+    ensures { λ r. ⌜ (r ≡ rowsWritten q (length (now (rows .entry)))) × (now (rows .exit) ≡ rowsWrittenOver q (now (rows .entry))) ⌝ }
 {
     let n = terms(q);
+    if Question::MAX_TERMS < n {
+        return Written::Refused(Refusal::new(Refusal::TOO_MANY_TERMS, 0));
+    }
     let count = count_rows(q, n);
     if rows.len() < count {
         return Written::Refused(Refusal::new(Refusal::BUFFER_TOO_SHORT, 0));
@@ -94,6 +108,6 @@ pub fn reduce(q: Question, rows: &mut [u32]) -> Written
     let table = check(q);
     match table {
         Check::Refused(refusal) => Written::Refused(refusal),
-        Check::Accepted => reduce_accepted(q, rows),
+        Check::Accepted => write_rows(q, rows),
     }
 }

@@ -5,7 +5,6 @@ use native.Mathlib.Omega.{arith}
 use borrow.Author.Needs.{needs}
 use lib.ListN.{length}
 use Rattle.question.specs.Questions.{idle}
-use Rattle.question.proofs.StatementsLaws.{table-long}
 use Rattle.reduction.specs.Reducing.{packedRows}
 use Rattle.reduction.proofs.ReducingLaws.{countFrom, count-turn, count-end, packed-count, packed-few}
 use Rattle.reduction.proofs.reducing.count_rows.Statement.{statement}
@@ -19,23 +18,25 @@ abbrev μ-loop : tie.MeasureT-loop
 
 loop-holds : tie.Need-loop-holds Inv-loop μ-loop
 loop-holds c =
-    let start = ap (λ t. countFrom (c .args .t1) t 0) (c .pre .1) in
-    (search needs, omega (arith, start, packed-count (c .args .t1)))
+    let q = c .before .args .t1 in
+    let start = ap (λ t. countFrom q t 0) (c .before .pre .0) in
+    (search needs, omega (arith, start, packed-count q))
 
 -- the rows of the statement at a turn are some of those left
-turned : (c : tie.After-row-count Inv-loop μ-loop) → let l = c .before .before .before in
-    countFrom (l .before .args .t1) (l .before .args .terms) (l .loop .i) ≡ c .row-count .result + countFrom (l .before .args .t1) (l .before .args .terms) (l .loop .i + 1)
+turned : (c : tie.After-row-count Inv-loop μ-loop) → let l = c .before .before .before in let a = l .before .before .args in
+    countFrom (a .t1) (a .terms) (l .loop .i) ≡ c .row-count .result + countFrom (a .t1) (a .terms) (l .loop .i + 1)
 turned c =
     let l = c .before .before .before in
-    let q = l .before .args .t1 in
-    let long : length (q .table) ≡ 64 = search table-long in
-    count-turn q (l .before .args .terms) (l .loop .i) idle (c .before .before .loop-test .taken) (omega arith)
-    ∙ ap (λ n. n + countFrom q (l .before .args .terms) (l .loop .i + 1)) (sym (c .row-count .ensures))
+    let a = l .before .before .args in
+    count-turn (a .t1) (a .terms) (l .loop .i) idle (omega (arith, c .before .before .loop-test .taken, l .before .statement-count .ensures .0))
+    ∙ ap (λ n. n + countFrom (a .t1) (a .terms) (l .loop .i + 1)) (sym (c .row-count .ensures))
 
 add-total : tie.Need-add-total Inv-loop μ-loop
 add-total c =
     let l = c .before .before .before in
-    omega (arith, turned c, l .loop .inv .1, packed-few (l .before .args .t1) (l .before .pre .0))
+    let e = l .before .before in
+    let stated = l .before .statement-count .ensures in
+    omega (arith, turned c, l .loop .inv .1, packed-few (e .args .t1) (omega (arith, stated .0, stated .1)) (omega (arith, e .pre .0, e .pre .1)))
 
 loop-again : tie.Need-loop-again Inv-loop μ-loop
 loop-again c =
@@ -45,7 +46,8 @@ loop-again c =
 returns : tie.Need-returns Inv-loop μ-loop
 returns c =
     let l = c .before in
-    omega (arith, l .loop .inv .1, count-end (l .before .args .t1) (l .before .args .terms) (l .loop .i) (c .loop-test .left))
+    let a = l .before .before .args in
+    omega (arith, l .loop .inv .1, count-end (a .t1) (a .terms) (l .loop .i) (omega (arith, c .loop-test .left, l .before .statement-count .ensures .0)))
 
 pub count-rows-spec : {M : Type 1} → statement M
 count-rows-spec =
@@ -53,6 +55,7 @@ count-rows-spec =
     (tie.spec
     Inv-loop
     μ-loop
+    (λ c κs. search needs)
     loop-holds
     (λ c. search needs)
     (λ c. search needs)

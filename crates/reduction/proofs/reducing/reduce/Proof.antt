@@ -1,20 +1,24 @@
--- `reduce` passes the table's refusal on, and else reduces the accepted question.
+-- `reduce` passes the table's refusal on, and else writes the rows of the table.
 use denote.Ref.{now}
 use mathlib.Core.Path.{sym, _∙_}
 use borrow.Author.Needs.{needs}
-use Rattle.question.proofs.AcceptedLaws.{accepted}
-use Rattle.reduction.proofs.ReducingLaws.{refused}
+use Rattle.reduction.proofs.TableRows.{refused, as-table}
 use Rattle.reduction.proofs.reducing.reduce.Statement.{statement}
 use Rattle.reduction.proofs.reducing.reduce.Tie as tie
-
-reduce-accepted-requires : tie.Need-reduce-accepted-requires
-reduce-accepted-requires c κs = accepted (c .before .before .before .before .before .args .q) .0 (sym (c .before .before .before .check .ensures) ∙ c .before .enum-told .given .1)
 
 returns : tie.Need-returns
 returns c =
     let e = c .before .before .before .before .before in
     let left = refused (e .args .q) (now (e .args .rows)) _ (sym (c .before .before .before .check .ensures) ∙ c .before .table .given .1) in
     (sym (left .0), sym (left .1))
+
+returns-2 : tie.Need-returns-2
+returns-2 c =
+    let k = c .before .before .before .before .before .before in
+    let a = k .before .before .args in
+    let w = c .before .before .write-rows .ensures in
+    let same = as-table (a .q) (now (a .rows)) (sym (k .check .ensures) ∙ c .before .before .before .before .enum-told .given .1) in
+    (w .0 ∙ sym (same .0), w .1 ∙ sym (same .1))
 
 pub reduce-spec : {M : Type 1} → statement M
 reduce-spec =
@@ -23,7 +27,7 @@ reduce-spec =
     (λ c κs. search needs)
     (λ c. search needs)
     (λ c. search needs)
-    reduce-accepted-requires
+    (λ c κs. search needs)
     returns
     (λ c. search needs)
-    (λ c. search needs))
+    returns-2)
