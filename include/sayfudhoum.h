@@ -4,17 +4,19 @@
  * A question declares E element names and S set names and states up to 64 flat statements about
  * them, of eleven kinds. Its answer is "impossible" (no assignment over any finite domain meets the
  * statements) or "possible" with the first model. Both are files of bytes; docs/FORMAT.md has the
- * format, docs/C.md a guide, and examples/ two programs.
+ * format, docs/C.md a guide, and examples/ two programs. Of an impossible question, the clashing part
+ * can be had: statements that can't all hold, of which none can be left out.
  *
- * For both functions:
+ * For all three functions:
  * - They are total: any bytes of any length may be handed in. What is wrong is refused by a number.
  * - They allocate nothing, keep no state and write nothing but what is said below. Several threads
  *   may call them at the same time, with buffers of their own.
- * - A call needs at most 32 KiB of stack, whatever the question (measured: 28,496 bytes).
- * - A pointer must not be null, and the bytes that it is given with must be there: question_length
- *   bytes that can be read, answer_length bytes that can be written. A length may be 0; the pointer
- *   must not be null even then.
- * - Question and answer must not overlap, and nobody else may write to either during the call.
+ * - A call needs at most 32 KiB of stack, whatever the question (measured: 31,968 bytes).
+ * - A slice is a pointer and the length behind it: the question, which is read, or a buffer, which is
+ *   lent to be written. A pointer must not be null, and the bytes of its slice must be there:
+ *   question_length bytes that can be read, and in each buffer as many that can be written as its
+ *   length says. A length may be 0; the pointer must not be null even then.
+ * - No two slices may overlap, and nobody else may write to any of them during the call.
  *
  * The library is for x86-64 Linux, and links with no other library. C99 or C++11.
  */
@@ -34,7 +36,10 @@ extern "C" {
 #define SAYFUDHOUM_MAX_STATEMENTS 64 /* statements */
 #define SAYFUDHOUM_MAX_TERMS 12      /* element names and statements x != y together, T */
 
-/* The longest question file, and the longest answer: a buffer of so many bytes is never too short. */
+/*
+ * The longest question file, and the longest answer: a buffer of so many bytes is never too short, for
+ * a clashing part and for an answer. For indexes it is a buffer of SAYFUDHOUM_MAX_STATEMENTS bytes.
+ */
 #define SAYFUDHOUM_MAX_QUESTION_LENGTH 392
 #define SAYFUDHOUM_MAX_ANSWER_LENGTH 49
 
@@ -76,8 +81,8 @@ extern "C" {
 #define SAYFUDHOUM_TOO_MANY_STATEMENTS 7 /* the 65th statement */
 #define SAYFUDHOUM_TOO_MANY_TERMS 8      /* this statement x != y would make T more than 12 */
 #define SAYFUDHOUM_BYTES_AFTER_END 9     /* bytes follow the end field */
-#define SAYFUDHOUM_BUFFER_TOO_SHORT 10   /* the buffer is shorter than this very answer */
-/* The last two are the project's, but neither function below ever gives them. */
+#define SAYFUDHOUM_BUFFER_TOO_SHORT 10   /* a buffer is shorter than what this very call has to write */
+/* The last two are the project's, but no function below ever gives them. */
 #define SAYFUDHOUM_BAD_MODEL 11 /* a bad model or answer was handed in */
 #define SAYFUDHOUM_BAD_ROW 12   /* a bad row was handed in */
 
@@ -110,11 +115,49 @@ uint64_t sayfudhoum_answer(const uint8_t *question, size_t question_length,
  */
 uint64_t sayfudhoum_verdict(const uint8_t *question, size_t question_length);
 
+/*
+ * Decides the question in question[0 .. question_length - 1], and writes its clashing part, the old
+ * indexes of the part's statements, and the question's answer, each to the start of its buffer.
+ *
+ * The clashing part of an impossible question: from index 0 upward, a statement is dropped for good if
+ * what remains without it is still impossible. So the part is impossible, and without any one of its
+ * statements it is possible. A possible question has an empty part.
+ *   part     a question file with the E and S of the question and the statements of the part in their
+ *            order; for a possible question 01 00 02 E S 7F 00 00
+ *   indexes  one byte for each statement of the part: its index in the question, counted from 0. They
+ *            rise; for a possible question there are none
+ *   answer   the bytes that sayfudhoum_answer writes for the question
+ *
+ * Result: one number; take it apart by sayfudhoum_refusal, and if that is 0 by sayfudhoum_part_length,
+ * sayfudhoum_index_count and sayfudhoum_clash_answer_length.
+ *   lowest byte 0: decided. The rest is the count of bytes in the part, plus 2^16 times the count of
+ *     indexes, plus 2^24 times the count of bytes in the answer. The answer has 7 bytes exactly if the
+ *     question is impossible.
+ *   lowest byte 1 to 9: the question is refused by this number, at the place that is the rest; the
+ *     same as sayfudhoum_answer would give.
+ *   lowest byte 10: the question was decided, and one buffer or more is shorter than what this very
+ *     call has to write into it. The rest is 0. It comes last.
+ *
+ * Written: if decided, these three, and nothing behind them: the bytes of each buffer past what is
+ * written keep their values. If refused, nothing: all three buffers keep their values, also those that
+ * would have been long enough. The question is only read, and nothing outside the four slices is
+ * touched.
+ */
+uint64_t sayfudhoum_clash(const uint8_t *question, size_t question_length,
+                          uint8_t *part, size_t part_length,
+                          uint8_t *indexes, size_t indexes_length,
+                          uint8_t *answer, size_t answer_length);
+
 /* The refusal number in a result, or 0 if the question was decided. */
 static inline unsigned sayfudhoum_refusal(uint64_t result) { return result & 0xFF; }
 
-/* The rest of a result: the place if refused, else the count of bytes written, or the verdict. */
+/* The rest of a result: the place if refused, else the count of bytes written, the verdict, or three counts. */
 static inline size_t sayfudhoum_rest(uint64_t result) { return result >> 8; }
+
+/* Of a result of sayfudhoum_clash that is not refused: the bytes of the part, the indexes, the bytes of the answer. */
+static inline size_t sayfudhoum_part_length(uint64_t result) { return (result >> 8) & 0xFFFF; }
+static inline size_t sayfudhoum_index_count(uint64_t result) { return (result >> 24) & 0xFF; }
+static inline size_t sayfudhoum_clash_answer_length(uint64_t result) { return result >> 32; }
 
 #ifdef __cplusplus
 }

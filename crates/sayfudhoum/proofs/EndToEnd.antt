@@ -1,4 +1,4 @@
--- The end-to-end theorem, on the contracts of the two calls for C: for all bytes, what a call gives back and writes is what document 01 says of them.
+-- The end-to-end theorem, on the contracts of the calls sayfudhoum_answer and sayfudhoum_verdict: for all bytes, what a call gives back and writes is what document 01 says of them.
 -- "Impossible" is said exactly if the file is accepted and no assignment over any finite domain meets its statements, "possible" exactly if it is accepted and some assignment does;
 -- then the first model is shown, which meets every statement, and the judge says yes to it.
 use Prim.Native.Nat.{ℕ, _+_, _*_, _≤_, _<_}
@@ -16,7 +16,7 @@ use Rattle.outcome.specs.declared.refusals.Refusal.{Refusal}
 use Rattle.question.specs.declared.questions.Question.{Question}
 use Rattle.question.specs.Questions.{statements}
 use Rattle.question.specs.Checks.{IsAccepted}
-use Rattle.statement.specs.Meaning.{Assignment, IsAssignment, AllHold}
+use Rattle.statement.specs.Meaning.{IsAssignment, AllHold, CantHold, CanHold}
 use Rattle.question.proofs.AcceptedLaws.{accepted}
 use Rattle.outcome.specs.declared.checks.Check.{Check}
 use Rattle.outcome.specs.declared.checks.Check.the-variants.{Accepted, Refused}
@@ -28,6 +28,7 @@ use Rattle.outcome.proofs.Never.{never}
 use Rattle.theory.specs.Solutions.{Solution}
 use Rattle.theory.specs.Answers.{IsFirstModelOf, asModel}
 use Rattle.theory.proofs.AnswerLaws.{answer-first, answer-impossible, answer-solution, answer-assignment, answer-holds}
+use Rattle.clash.proofs.PartLaws.{can-or-cant}
 use Rattle.judge.specs.declared.judging.Judgement.the-variants.{Yes}
 use Rattle.judge.specs.Judgements.{judged}
 use Rattle.outcome.specs.Writes.{over}
@@ -51,14 +52,12 @@ use Rattle.sayfudhoum.proofs.exports.sayfudhoum_verdict.Reads as verdic
 -- the file is accepted, and no assignment over any finite domain meets the statements of its question
 pub record IsImpossible (bytes : List ℕ) : Type 0 where
   pub file-accepted : readQuestion bytes .outcome ≡ Accepted
-  pub no-assignment : (A : Assignment) → IsAssignment (readQuestion bytes .question .elements) A → AllHold A (statements (readQuestion bytes .question)) → ⊥
+  pub no-assignment : CantHold (readQuestion bytes .question .elements) (statements (readQuestion bytes .question))
 
 -- the file is accepted, and some assignment over a finite domain meets the statements of its question
 pub record IsPossible (bytes : List ℕ) : Type 0 where
   pub file-accepted : readQuestion bytes .outcome ≡ Accepted
-  pub by : Assignment
-  pub assignment : IsAssignment (readQuestion bytes .question .elements) by
-  pub holding : AllHold by (statements (readQuestion bytes .question))
+  pub some-assignment : CanHold (readQuestion bytes .question .elements) (statements (readQuestion bytes .question))
 
 -- the file is accepted, and a solution is the first model of its question; as a model it is an assignment that meets every statement, and the judge says yes to it
 pub record IsShown (bytes : List ℕ) (sol : Solution) : Type 0 where
@@ -103,13 +102,13 @@ pub refused-accepted : {A : Type 0} {o : Check} {r : Refusal} → o ≡ Refused 
 refused-accepted p e = never cc
 
 pub not-both : {A : Type 0} {bytes : List ℕ} → IsImpossible bytes → IsPossible bytes → A
-not-both i p = absurd (i .no-assignment (p .by) (p .assignment) (p .holding))
+not-both i p = can-or-cant (i .no-assignment) (p .some-assignment)
 
 -- a file is possible exactly if it has a first model
 pub possible-shown : (bytes : List ℕ) → IsPossible bytes ↔ ((sol : Solution) × IsShown bytes sol)
 possible-shown bytes = (
   λ p. go p (answerIn bytes) refl,
-  λ s. record { file-accepted = s .1 .file-accepted; by = asModel (s .0); assignment = s .1 .assignment; holding = s .1 .holding },
+  λ s. record { file-accepted = s .1 .file-accepted; some-assignment = record { by = asModel (s .0); assignment = s .1 .assignment; holding = s .1 .holding } },
 )
   where
     go : IsPossible bytes → (s : Option Solution) → answerIn bytes ≡ s → (sol : Solution) × IsShown bytes sol

@@ -1,4 +1,4 @@
--- Exactness, on the contracts of the two calls for C: each number is given back exactly if the file is what the number says of it.
+-- Exactness, on the contracts of the calls sayfudhoum_answer and sayfudhoum_verdict: each number is given back exactly if the file is what the number says of it.
 -- A call ends in one of its ways; all the others are excluded by the file or by the number.
 use Prim.Native.Nat.{ℕ, _+_, _*_, _≤_, _<_}
 use denote.Ref.{now}
@@ -31,11 +31,11 @@ abbrev pub Tells : ℕ → Refusal → Type 0
 Tells n r = (n ≡ r .place * 256 + r .number) × (0 < r .number) × (r .number < 256)
 
 -- it tells one refusal
-tells-one : (n : ℕ) (r s : Refusal) → Tells n r → Tells n s → r ≡ s
+pub tells-one : (n : ℕ) (r s : Refusal) → Tells n r → Tells n s → r ≡ s
 tells-one n r s t u = ap₂ refusal (omega (arith, t .0, t .1, t .2, u .0, u .1, u .2)) (omega (arith, t .0, t .1, t .2, u .0, u .1, u .2))
 
 -- a refused file's number tells its refusal, which is not 10
-file-tells : (bytes : List ℕ) (r : Refusal) (n : ℕ) → readQuestion bytes .outcome ≡ Refused r → n ≡ r .place * 256 + r .number → Tells n r × (r .number < 10)
+pub file-tells : (bytes : List ℕ) (r : Refusal) (n : ℕ) → readQuestion bytes .outcome ≡ Refused r → n ≡ r .place * 256 + r .number → Tells n r × (r .number < 10)
 file-tells bytes r n p e = let t = refusal-told bytes r p .0 in ((e, omega (arith, t .0), omega (arith, t .1)), omega (arith, t .1))
 
 -- a call of `sayfudhoum_verdict` on a file

@@ -33,7 +33,15 @@ use Rattle.outcome.specs.Checks.{acceptedThen}
 use Rattle.answer.specs.Answers.{asAnswer}
 use Rattle.decision.specs.Decisions.{undecided, decidedAs, decided}
 use Rattle.sayfudhoum.specs.Files.{answerIn, fileDecided, answered, answeredOver, reportBytes, response, responded, respondedOver}
-use Rattle.sayfudhoum.specs.Numbers.{IsSmall, IsShort}
+use Rattle.sayfudhoum.specs.Numbers.{IsSmall, IsShort, IsFew}
+use Rattle.question.specs.Checks.{IsAccepted}
+use Rattle.question.proofs.AcceptedLaws.{accepted as isAccepted}
+use Rattle.question_file.specs.Bytes.{questionBytes}
+use Rattle.question_file.proofs.WriterLaws.{longest}
+use Rattle.clash.specs.declared.files.ClashWritten.the-variants.{Counts, Refused as ClashRefused}
+use Rattle.clash.specs.Clashes.{clashing, partOf}
+use Rattle.clash.specs.Files.{Three, anyShort, threeWritten, clashBytes, clashWritten}
+use Rattle.clash.proofs.PartLaws.{part-accepted, part-checked, part-count}
 use Rattle.decision.proofs.DecisionLaws.{decided-accepted}
 use Rattle.decision.proofs.AnsweredLaws.{file-short}
 
@@ -110,6 +118,21 @@ module _ (bytes : List ℕ) where
 
       go : (o : Check) → readQuestion bytes .outcome ≡ o → IsShort (checkedThen o (fitted (fileOf (answerIn bytes)) room))
       go Accepted p = fits (ltb room (length (fileOf (answerIn bytes)))) (file-short (readQuestion bytes .question) (read-checked bytes p))
+      go (Refused r) p = refusal-told bytes r p .1
+
+  pub clash-few : (old : Three) → IsFew (clashWritten bytes old)
+  unfolding clashWritten
+  clash-few old = go (readQuestion bytes .outcome) refl
+    where
+      q : Question
+      q = readQuestion bytes .question
+
+      three-few : (b : Bool) → IsAccepted q → length (fileOf (answer q)) ≤ longestAnswer → IsFew (cond b (ClashRefused (refusal bufferTooShort 0)) (Counts (length (questionBytes (partOf q))) (length (clashing q)) (length (fileOf (answer q)))))
+      three-few true is h = omega arith
+      three-few false is h = (longest (partOf q) (part-checked q is), omega (arith, part-count q is, part-accepted q is .few-statements), omega arith)
+
+      go : (o : Check) → readQuestion bytes .outcome ≡ o → IsFew (acceptedThen o ClashRefused (threeWritten (clashBytes q) old))
+      go Accepted p = three-few (anyShort (clashBytes q) old) (isAccepted q .0 (read-checked bytes p)) (file-short q (read-checked bytes p))
       go (Refused r) p = refusal-told bytes r p .1
 
 -- what is written lies in the buffer

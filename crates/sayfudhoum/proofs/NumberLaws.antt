@@ -10,7 +10,10 @@ use Rattle.outcome.specs.declared.writes.Written.{Written}
 use Rattle.outcome.specs.declared.writes.Written.the-variants.{Count, Refused as NotWritten}
 use Rattle.outcome.specs.declared.checks.Check.{Check}
 use Rattle.outcome.specs.declared.checks.Check.the-variants.{Refused}
-use Rattle.sayfudhoum.specs.Numbers.{maxPlace, IsSmall, IsShort}
+use Rattle.clash.specs.declared.files.ClashWritten.{ClashWritten}
+use Rattle.clash.specs.declared.files.ClashWritten.the-variants.{Counts, Refused as ClashRefused}
+use Rattle.question.specs.Limits.{maxStatements}
+use Rattle.sayfudhoum.specs.Numbers.{maxPlace, IsSmall, IsShort, IsFew}
 
 module _ (w : Written) where
   pub written-count : (n : ℕ) → w ≡ Count n → IsShort w → n ≤ maxPlace
@@ -22,6 +25,13 @@ module _ (w : Written) where
 module _ (o : Check) where
   pub outcome-place : (r : Refusal) → o ≡ Refused r → IsSmall o → r .place ≤ maxPlace
   outcome-place r e h = subst IsSmall e h
+
+module _ (w : ClashWritten) where
+  pub clash-counts : (part indexes answer : ℕ) → w ≡ Counts part indexes answer → IsFew w → (part ≤ maxPlace) × (indexes ≤ maxStatements) × (answer ≤ maxPlace)
+  clash-counts part indexes answer e h = subst IsFew e h
+
+  pub clash-place : (r : Refusal) → w ≡ ClashRefused r → IsFew w → r .place ≤ maxPlace
+  clash-place r e h = subst IsFew e h
 
 -- a verdict is one bit
 pub verdict-small : (v : Verdict) → verdictByte v ≤ 1

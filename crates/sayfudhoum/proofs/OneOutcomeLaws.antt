@@ -1,4 +1,4 @@
--- Each public contract of this crate leaves one outcome: one result, and of those that write one buffer.
+-- Each public contract of this crate leaves one outcome: one result, and of those that write one buffer, or one for each that is lent.
 use denote.Ref.{now}
 use Rattle.outcome.specs.OneResult.{OneResult}
 use Rattle.outcome.specs.OneOutcome.{OneOutcome}
@@ -8,6 +8,8 @@ use Rattle.sayfudhoum.proofs.files.answer_file.Reads as answer-file
 use Rattle.sayfudhoum.proofs.files.respond.Reads as respond
 use Rattle.sayfudhoum.proofs.exports.sayfudhoum_answer.Reads as sayfudhoum-answer
 use Rattle.sayfudhoum.proofs.exports.sayfudhoum_verdict.Reads as sayfudhoum-verdict
+use Rattle.sayfudhoum.proofs.exports.sayfudhoum_clash.Reads as sayfudhoum-clash
+use Rattle.clash.specs.Files.{three}
 
 decide-file-one : OneResult decide-file.Learnt
 decide-file-one κs given x y s t = both
@@ -23,3 +25,6 @@ sayfudhoum-answer-one κs given x y s t p q = (both (p .0) (q .0), both (p .1) (
 
 sayfudhoum-verdict-one : OneResult sayfudhoum-verdict.Learnt
 sayfudhoum-verdict-one κs given x y s t = both
+
+sayfudhoum-clash-one : OneOutcome sayfudhoum-clash.Learnt (λ κs s. three (now (s .1 .0)) (now (s .1 .1 .0)) (now (s .1 .1 .1 .0)))
+sayfudhoum-clash-one κs given x y s t p q = (both (p .0) (q .0), both (p .1) (q .1))

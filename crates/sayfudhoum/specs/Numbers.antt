@@ -1,5 +1,5 @@
--- The one number that a call for C gives back: its lowest byte is the refusal number, or 0; the rest is the place, the count of bytes, or the verdict.
-use Prim.Native.Nat.{ℕ, _+_, _*_, _≤_}
+-- The one number that a call for C gives back: its lowest byte is the refusal number, or 0; the rest is the place, the count of bytes, the three counts of a clash, or the verdict.
+use Prim.Native.Nat.{ℕ, _+_, _*_, _^_, _≤_}
 use mathlib.Core.List.{List}
 use Rattle.outcome.specs.declared.refusals.Refusal.{Refusal}
 use Rattle.outcome.specs.declared.writes.Written.{Written}
@@ -7,7 +7,11 @@ use Rattle.outcome.specs.declared.writes.Written.the-variants.{Count, Refused a
 use Rattle.outcome.specs.Verdicts.{verdictByte}
 use Rattle.outcome.specs.declared.checks.Check.{Check}
 use Rattle.outcome.specs.declared.checks.Check.the-variants.{Accepted, Refused}
+use Rattle.question.specs.Limits.{maxStatements}
 use Rattle.decision.specs.declared.decisions.Decision.{Decision}
+use Rattle.clash.specs.declared.files.ClashWritten.{ClashWritten}
+use Rattle.clash.specs.declared.files.ClashWritten.the-variants.{Counts, Refused as ClashRefused}
+use Rattle.clash.specs.Files.{Three, clashWritten}
 use Rattle.sayfudhoum.specs.Files.{fileDecided, answered}
 
 -- a refusal: its place, and its number in the lowest byte
@@ -27,6 +31,14 @@ outcomeNumber (Refused r) verdict = refusalNumber r
 abbrev pub decisionNumber : Decision → ℕ
 decisionNumber d = outcomeNumber (d .outcome) (verdictByte (d .answer .verdict))
 
+-- the three counts of a clash: the bytes of the part, the indexes above 16 bits, and the bytes of the answer above 24
+abbrev pub countsNumber : ℕ → ℕ → ℕ → ℕ
+countsNumber part indexes answer = (part + indexes * 2 ^ 16 + answer * 2 ^ 24) * 256
+
+abbrev pub clashedNumber : ClashWritten → ℕ
+clashedNumber (Counts part indexes answer) = countsNumber part indexes answer
+clashedNumber (ClashRefused r) = refusalNumber r
+
 -- what `sayfudhoum_answer` gives back, where there is room for so many bytes
 unfoldable pub answerNumber : List ℕ → ℕ → ℕ
 answerNumber bytes room = writtenNumber (answered bytes room)
@@ -34,6 +46,10 @@ answerNumber bytes room = writtenNumber (answered bytes room)
 -- what `sayfudhoum_verdict` gives back
 unfoldable pub verdictNumber : List ℕ → ℕ
 verdictNumber bytes = decisionNumber (fileDecided bytes)
+
+-- what `sayfudhoum_clash` gives back, where the three lent buffers hold so much
+unfoldable pub clashNumber : List ℕ → Three → ℕ
+clashNumber bytes old = clashedNumber (clashWritten bytes old)
 
 -- places and counts that leave room for the lowest byte
 abbrev pub maxPlace : ℕ
@@ -46,3 +62,7 @@ IsSmall (Refused r) = r .place ≤ maxPlace
 abbrev pub IsShort : Written → Type 0
 IsShort (Count n) = n ≤ maxPlace
 IsShort (NotWritten r) = r .place ≤ maxPlace
+
+abbrev pub IsFew : ClashWritten → Type 0
+IsFew (Counts part indexes answer) = (part ≤ maxPlace) × (indexes ≤ maxStatements) × (answer ≤ maxPlace)
+IsFew (ClashRefused r) = r .place ≤ maxPlace

@@ -1,12 +1,15 @@
-// The two calls for the generator's C build. They pass only numbers and byte slices, and refuse by number.
+// The calls for the generator's C build. They pass only numbers and byte slices, and refuse by number.
 use crate::files::answer_file;
 use crate::files::decide_file;
+use crate::numbers::clash_number;
 use crate::numbers::outcome_number;
 use crate::numbers::written_number;
+use clash::clash_file;
 ghost use mathlib.Core.Path.{_≡_};
 ghost use lib.ListN.{length};
+ghost use Rattle.clash.specs.Files.{three, clashOver};
 ghost use Rattle.sayfudhoum.specs.Files.{answeredOver};
-ghost use Rattle.sayfudhoum.specs.Numbers.{answerNumber, verdictNumber};
+ghost use Rattle.sayfudhoum.specs.Numbers.{answerNumber, verdictNumber, clashNumber};
 
 // Question bytes to answer bytes: the count of the bytes written, or the refusal.
 #[no_mangle]
@@ -27,4 +30,19 @@ pub extern "C" fn sayfudhoum_verdict(question: &[u8]) -> u64
     let answer = decision.answer;
     let verdict = answer.verdict;
     outcome_number(outcome, verdict)
+}
+
+// Question bytes to the file of the clashing part, its indexes and the question's answer: the three counts of what was written, or the refusal.
+#[no_mangle]
+pub extern "C" fn sayfudhoum_clash(
+    question: &[u8],
+    part: &mut [u8],
+    indexes: &mut [u8],
+    answer: &mut [u8],
+) -> u64
+    ensures { λ r. ⌜ r ≡ clashNumber (now (question .entry)) (three (now (part .entry)) (now (indexes .entry)) (now (answer .entry))) ⌝ }
+    ensures { λ _. ⌜ three (now (part .exit)) (now (indexes .exit)) (now (answer .exit)) ≡ clashOver (now (question .entry)) (three (now (part .entry)) (now (indexes .entry)) (now (answer .entry))) ⌝ }
+{
+    let written = clash_file(question, part, indexes, answer);
+    clash_number(written)
 }

@@ -1,4 +1,5 @@
-// The number that a call for C gives back: the lowest byte is the refusal number, or 0; the rest is the place, the count of bytes, or the verdict.
+// The number that a call for C gives back: the lowest byte is the refusal number, or 0; the rest is the place, the count of bytes, the three counts of a clash, or the verdict.
+use clash::ClashWritten;
 use outcome::Check;
 use outcome::Refusal;
 use outcome::Verdict;
@@ -6,7 +7,7 @@ use outcome::Written;
 ghost use mathlib.Core.Path.{_≡_};
 ghost use Prim.Native.Nat.{_≤_};
 ghost use Rattle.outcome.specs.Verdicts.{verdictByte};
-ghost use Rattle.sayfudhoum.specs.Numbers.{maxPlace, IsSmall, IsShort, refusalNumber, writtenNumber, outcomeNumber};
+ghost use Rattle.sayfudhoum.specs.Numbers.{maxPlace, IsSmall, IsShort, IsFew, refusalNumber, writtenNumber, outcomeNumber, clashedNumber};
 
 fn refusal_number(refusal: Refusal) -> u64
     requires { ⌜ refusal .place ≤ maxPlace ⌝ }
@@ -41,5 +42,22 @@ pub(crate) fn written_number(written: Written) -> u64
     match written {
         Written::Count(count) => count as u64 * 256,
         Written::Refused(refusal) => refusal_number(refusal),
+    }
+}
+
+// Where the number of indexes begins in the rest of a clash's number, and where the count of the answer's bytes does.
+const INDEXES: u64 = 1 << 16;
+
+const ANSWER: u64 = 1 << 24;
+
+pub(crate) fn clash_number(written: ClashWritten) -> u64
+    requires { ⌜ IsFew written ⌝ }
+    ensures { λ r. ⌜ r ≡ clashedNumber written ⌝ }
+{
+    match written {
+        ClashWritten::Counts(part, indexes, answer) => {
+            (part as u64 + indexes as u64 * INDEXES + answer as u64 * ANSWER) * 256
+        }
+        ClashWritten::Refused(refusal) => refusal_number(refusal),
     }
 }
