@@ -5,15 +5,18 @@
 
 Small questions: the assignments over all domains that are large enough are listed one by one, each statement has the set
 of those that meet it, and a list of statements the intersection. Questions drawn at random come from the same generator
-and are decided domain element by domain element. The third line counts the verdicts in crates/compare/stdin."""
+and are decided domain element by domain element. What clashes of an impossible list is found by the walk that its
+definition says. The third line counts the verdicts in crates/compare/stdin."""
+import functools
 import itertools
 import os
 
 EQUAL, DIFFER, IN, NOT_IN = 0x10, 0x11, 0x12, 0x13
 SAME, OTHER, EMPTY, SINGLE = 0x20, 0x21, 0x22, 0x23
 UNION, MEET, MINUS = 0x30, 0x31, 0x32
-SORTS = {EQUAL: 'ee', DIFFER: 'ee', IN: 'es', NOT_IN: 'es', SAME: 'ss', OTHER: 'ss', EMPTY: 's', SINGLE: 'se',
-         UNION: 'sss', MEET: 'sss', MINUS: 'sss'}
+# In the order of crates/compare/src/small.rt.
+SORTS = {EQUAL: 'ee', DIFFER: 'ee', IN: 'es', NOT_IN: 'es', SAME: 'ss', OTHER: 'ss', SINGLE: 'se',
+         UNION: 'sss', MEET: 'sss', MINUS: 'sss', EMPTY: 's'}
 MEANING = {EQUAL: lambda a, b: a == b, DIFFER: lambda a, b: a != b, IN: lambda a, x: a in x,
            NOT_IN: lambda a, x: a not in x, SAME: lambda x, y: x == y, OTHER: lambda x, y: x != y,
            EMPTY: lambda x: not x, SINGLE: lambda x, a: x == {a}, UNION: lambda x, y, z: x == y | z,
@@ -22,19 +25,33 @@ MEANING = {EQUAL: lambda a, b: a == b, DIFFER: lambda a, b: a != b, IN: lambda a
 
 class Tally:
     def __init__(self):
-        self.questions = self.possible = self.patterns = self.models = 0
+        self.questions = self.possible = self.patterns = self.models = self.clashing = 0
 
-    def add(self, found, times=1):
-        """A question, or several alike, with the patterns of equal names in which it is possible. With one pattern
-        the library decides once, else once more without any."""
-        self.questions += times
-        self.possible += times * any(found)
-        self.patterns += times * len(found)
-        self.models += times * (sum(found) + (len(found) > 1) * any(found))
+    def add(self, found, statements, can_hold):
+        """A question with the patterns of equal names in which it is possible, and the test whether some of its statements
+        can hold. With one pattern the library decides once, else once more without any."""
+        self.questions += 1
+        self.possible += any(found)
+        self.patterns += len(found)
+        self.models += sum(found) + (len(found) > 1) * any(found)
+        if not any(found):
+            self.clashing += len(clash(statements, can_hold))
 
     def line(self, title):
-        return '%s: questions %d, possible %d, impossible %d, patterns compared %d, models judged %d, differences 0' % (
-            title, self.questions, self.possible, self.questions - self.possible, self.patterns, self.models)
+        return ('%s: questions %d, possible %d, impossible %d, patterns compared %d, models judged %d, '
+                'clashing statements %d, differences 0' % (
+                    title, self.questions, self.possible, self.questions - self.possible, self.patterns, self.models,
+                    self.clashing))
+
+
+def clash(statements, can_hold):
+    """From index 0 upward, a statement is dropped for good if what remains without it still can't hold."""
+    kept, left = [], list(statements)
+    while left:
+        first = left.pop(0)
+        if can_hold(kept + left):
+            kept.append(first)
+    return kept
 
 
 def pattern(elements):
@@ -53,20 +70,24 @@ def small(tally, elements, sets, longest):
     listed = list(assignments(elements, sets, elements + longest + 1))
     meets = []
     for tag, sorts in SORTS.items():
-        for names in itertools.product(*[range(elements if sort == 'e' else sets) for sort in sorts]):
+        # the first name of a statement changes soonest
+        for last_first in itertools.product(*[range(elements if sort == 'e' else sets) for sort in reversed(sorts)]):
+            names = last_first[::-1]
             meets.append(sum(1 << i for i, (at, part) in enumerate(listed)
                              if MEANING[tag](*[(at if sort == 'e' else part)[n] for sort, n in zip(sorts, names)])))
     of_pattern = {}
     for i, (at, _) in enumerate(listed):
         of_pattern[pattern(at)] = of_pattern.get(pattern(at), 0) | 1 << i
+
+    def met(chosen):
+        return functools.reduce(lambda left, k: left & meets[k], chosen, (1 << len(listed)) - 1)
+
     for count in range(longest + 1):
-        for chosen in itertools.combinations_with_replacement(range(len(meets)), count):
-            left = (1 << len(listed)) - 1
-            for k in chosen:
-                left &= meets[k]
-            # two in every order; three with each of them last, and the first two in one order
-            orders = 1 if count < 2 else len(set(chosen))
-            tally.add([left & some != 0 for some in of_pattern.values()], orders)
+        for chosen in itertools.product(range(len(meets)), repeat=count):
+            # of three, the first two in one order
+            if count < 3 or chosen[0] <= chosen[1]:
+                left = met(chosen)
+                tally.add([left & some != 0 for some in of_pattern.values()], chosen, met)
 
 
 def drawn(count, state):
@@ -129,7 +150,8 @@ def main():
     tally = Tally()
     for elements, sets, statements in drawn(20000, 0x5EED):
         patterns = sorted({pattern(at) for at in itertools.product(range(elements), repeat=elements)})
-        tally.add([possible(sets, statements, names) for names in patterns])
+        tally.add([possible(sets, statements, names) for names in patterns], statements,
+                  lambda some: any(possible(sets, some, names) for names in patterns))
     print(tally.line('drawn at random'))
     with open(os.path.join(os.path.dirname(__file__), '..', 'crates', 'compare', 'stdin')) as lines:
         said = [line[0] for line in lines]

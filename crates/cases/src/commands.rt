@@ -13,6 +13,8 @@ use crate::tables::table;
 use answer::Answer;
 use answer::read_answer;
 use answer::write_answer;
+use clash::clash;
+use clash::clash_file;
 use judge::judge;
 use outcome::Check;
 use outcome::Verdict;
@@ -66,7 +68,7 @@ fn read_file(bytes: &[u8]) {
 // W: a table written.
 fn write_table(bytes: &[u8], group: &[u8]) {
     let mut file = io::buffer();
-    let n = room(group);
+    let n = room(group, 0);
     write_into(table(bytes), &mut file[0..n]);
 }
 
@@ -107,7 +109,7 @@ fn answer_into(bytes: &[u8], file: &mut [u8]) {
 // Q: a question file answered, with room for so many bytes.
 fn answer_question_file(bytes: &[u8], group: &[u8]) {
     let mut file = io::buffer();
-    let n = room(group);
+    let n = room(group, 0);
     answer_into(bytes, &mut file[0..n]);
 }
 
@@ -123,14 +125,14 @@ fn respond_to(bytes: &[u8]) {
     outcomes::hexadecimal(sayfudhoum_verdict(bytes));
 }
 
-// Room for 768 rows or bytes, or for as many as the group says.
-fn room(group: &[u8]) -> usize
+// Room for 768 rows or bytes, or for as many as byte k of the group says.
+fn room(group: &[u8], k: usize) -> usize
     ensures { λ r. ⌜ r ≤ 768 ⌝ }
 {
-    if group.len() == 0 {
+    if group.len() <= k {
         return 768;
     }
-    byte_at(group, 0) as usize
+    byte_at(group, k) as usize
 }
 
 fn space() -> [u32; 1024]
@@ -154,7 +156,7 @@ fn reduce_into(bytes: &[u8], rows: &mut [u32]) {
 // R: the rows of a table.
 fn reduce_table(bytes: &[u8], group: &[u8]) {
     let mut rows = space();
-    let n = room(group);
+    let n = room(group, 0);
     reduce_into(bytes, &mut rows[0..n]);
 }
 
@@ -208,6 +210,37 @@ fn decide(bytes: &[u8]) {
     decide_in(table(bytes), &mut rows[0..768]);
 }
 
+// K: the clash of a table, and the indexes that it keeps.
+fn clash_table(bytes: &[u8]) {
+    let found = clash(table(bytes));
+    let outcome = found.outcome;
+    let part = found.part;
+    let indexes = found.indexes;
+    outcomes::check(outcome);
+    outcomes::front(b", indexes", &indexes, part.count);
+}
+
+fn clash_into(bytes: &[u8], part: &mut [u8], indexes: &mut [u8], answer: &mut [u8]) {
+    let written = clash_file(bytes, part, indexes, answer);
+    outcomes::clash(written, part, indexes, answer);
+}
+
+// C: the clash of a question file, with room for so many bytes of the part, indexes and bytes of the answer.
+fn clash_question_file(bytes: &[u8], group: &[u8]) {
+    let mut part = outcomes::lent();
+    let mut indexes = outcomes::lent();
+    let mut answer = outcomes::lent();
+    let p = room(group, 0);
+    let i = room(group, 1);
+    let a = room(group, 2);
+    clash_into(
+        bytes,
+        &mut part[0..p],
+        &mut indexes[0..i],
+        &mut answer[0..a],
+    );
+}
+
 fn run_case(letter: u8, first: &[u8], second: &[u8], third: &[u8]) {
     match letter {
         b'F' => read_file(first),
@@ -221,6 +254,8 @@ fn run_case(letter: u8, first: &[u8], second: &[u8], third: &[u8]) {
         b'B' => write_value(first, second, third),
         b'Q' => answer_question_file(first, second),
         b'P' => respond_to(first),
+        b'C' => clash_question_file(first, second),
+        b'K' => clash_table(first),
         _ => outcomes::text(b"no such case"),
     }
     outcomes::text(b"\n");

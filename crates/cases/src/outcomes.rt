@@ -1,4 +1,5 @@
 // How an outcome is printed.
+use clash::ClashWritten;
 use judge::Judgement;
 use libc::STDOUT_FILENO;
 use outcome::Check;
@@ -6,6 +7,8 @@ use outcome::Refusal;
 use outcome::Verdict;
 use outcome::Written;
 use search::SearchAnswer;
+ghost use mathlib.Core.Path.{_≡_};
+ghost use lib.ListN.{length};
 
 pub(crate) fn text(words: &[u8]) {
     io::write_all(STDOUT_FILENO, words);
@@ -73,6 +76,67 @@ pub(crate) fn written(w: Written, file: &[u8]) {
             }
         }
         Written::Refused(r) => refusal(r),
+    }
+}
+
+// What a lent buffer has before a call, so that it can be seen where the call has left it as it was.
+const LENT: u8 = 0xEE;
+
+pub(crate) fn lent() -> [u8; 768]
+    ensures { λ r. ⌜ 768 ≡ length r ⌝ }
+{
+    [LENT; 768]
+}
+
+// Is a lent buffer as it was from some place on.
+fn is_left(buf: &[u8], from: usize) -> bool {
+    let mut i = from;
+    while i < buf.len() {
+        if buf[i] != LENT {
+            return false;
+        }
+        i += 1;
+    }
+    true
+}
+
+fn untouched(is: bool) {
+    if is {
+        text(b" untouched");
+    } else {
+        text(b" touched");
+    }
+}
+
+// So many bytes of a buffer.
+pub(crate) fn front(words: &[u8], buf: &[u8], count: usize) {
+    text(words);
+    if count <= buf.len() {
+        bytes(&buf[0..count]);
+    }
+}
+
+// The three counts of a clash, and what was put into the buffers.
+pub(crate) fn clash(w: ClashWritten, part: &[u8], indexes: &[u8], answer: &[u8]) {
+    match w {
+        ClashWritten::Counts(p, i, a) => {
+            text(b"counts ");
+            number(p);
+            text(b" ");
+            number(i);
+            text(b" ");
+            number(a);
+            front(b", part", part, p);
+            front(b", indexes", indexes, i);
+            front(b", answer", answer, a);
+            text(b", the rest");
+            untouched(is_left(part, p) & is_left(indexes, i) & is_left(answer, a));
+        }
+        ClashWritten::Refused(r) => {
+            refusal(r);
+            text(b", buffers");
+            untouched(is_left(part, 0) & is_left(indexes, 0) & is_left(answer, 0));
+        }
     }
 }
 

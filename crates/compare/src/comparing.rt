@@ -1,10 +1,12 @@
 // One question put to both solvers, and what is counted.
+use crate::clashes;
 use crate::models::is_right;
 use crate::patterns::patterns;
 use crate::patterns::stated;
 use crate::printing;
 use crate::trials::exists;
 use answer::Answer;
+use clash::clash;
 use decision::decide;
 use outcome::Check;
 use outcome::Verdict;
@@ -18,6 +20,8 @@ pub struct Tally {
     pub patterns: u64,
     // Models of the library, judged.
     pub models: u64,
+    // Statements in the clashing parts.
+    pub clashing: u64,
     pub differences: u64,
 }
 
@@ -29,6 +33,7 @@ impl Tally {
             impossible: 0,
             patterns: 0,
             models: 0,
+            clashing: 0,
             differences: 0,
         }
     }
@@ -80,6 +85,19 @@ pub(crate) fn hold(t: Tally, q: Question, possible: bool) -> Tally {
     }
 }
 
+// The library's clashing part, held to the second solver.
+fn hold_clash(t: Tally, q: Question, possible: bool) -> Tally {
+    let found = clash(q);
+    let part = found.part;
+    let indexes = found.indexes;
+    let mut counted = t;
+    counted.clashing = std::num::wrapping_add_u64(t.clashing, part.count as u64);
+    if clashes::is_right(q, possible, part, indexes) {
+        return counted;
+    }
+    differ(counted, q)
+}
+
 // One more question, possible or not.
 pub(crate) fn counted(t: Tally, possible: bool) -> Tally {
     let mut counted = t;
@@ -93,7 +111,7 @@ pub(crate) fn counted(t: Tally, possible: bool) -> Tally {
 }
 
 // Both solvers on the question with each pattern of its element names stated; if there are several, the question itself
-// is possible exactly if it is with one of them.
+// is possible exactly if it is with one of them. Last, what clashes.
 pub(crate) fn compare(t: Tally, q: Question) -> Tally {
     let all = patterns(q.elements);
     let mut now = t;
@@ -106,8 +124,8 @@ pub(crate) fn compare(t: Tally, q: Question) -> Tally {
         possible = possible | found;
         p += 1;
     }
-    if all == 1 {
-        return counted(now, possible);
+    if all != 1 {
+        now = hold(now, q, possible);
     }
-    counted(hold(now, q, possible), possible)
+    counted(hold_clash(now, q, possible), possible)
 }

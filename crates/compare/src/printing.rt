@@ -46,6 +46,9 @@ pub(crate) fn tally(t: Tally) {
         number(b", patterns compared ", t.patterns);
     }
     number(b", models judged ", t.models);
+    if t.clashing != 0 {
+        number(b", clashing statements ", t.clashing);
+    }
     number(b", differences ", t.differences);
     text(b"\n");
 }
