@@ -1,8 +1,8 @@
 # make            proves what the library and the program need, and builds both
-# make example    decides case I and two versions of a trimming step, and prints the answers in words
+# make example    decides case I and two versions of a trimming step, and prints in words the answers and what clashes
 # make test       the gate: all crates from nothing, every must-fail edit, and the tests through C
 # make memcheck   a part of the damaged files under valgrind, on x86-64 only
-# make bench      times the library beside cvc5, minisat and cadical, and compares their verdicts
+# make bench      times the library beside cvc5, minisat and cadical, and compares verdicts and cores
 # make install    header, archive, program and pkg-config file, below PREFIX (and that below DESTDIR)
 # make clean      removes what was built
 ifeq ($(shell command -v rt 2>/dev/null),)
@@ -28,17 +28,18 @@ library:
 program:
 	rt check decide
 
+shared = examples/model.c examples/statement.c
 example: library
 	@mkdir -p target/c
 	@for name in case_i trimming; do echo; \
-	    tests/x86-64 cc $(CFLAGS) -Iinclude -o target/c/$$name examples/$$name.c examples/model.c $(archive) && \
+	    tests/x86-64 cc $(CFLAGS) -Iinclude -o target/c/$$name examples/$$name.c $(shared) $(archive) && \
 	    tests/x86-64 run target/c/$$name || exit; \
 	done
 
 test:
 	.ci/run
 
-memcheck_sources = bad_input damage files heap_slices reader solver table
+memcheck_sources = bad_input clashes damage files finder heap_slices reader solver table
 ifeq ($(shell uname -m),x86_64)
 memcheck: library
 	mkdir -p target/c

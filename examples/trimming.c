@@ -6,10 +6,12 @@
  * "impossible" means that no pass can break it.
  *
  * Two versions of the step are decided. They differ in one tag, that of the statement which makes the
- * book of cut segments from those that are due and those that are barred.
+ * book of cut segments from those that are due and those that are barred. Of the right one, the
+ * statements that make it right are printed, of the wrong one a model that shows how it goes wrong.
  */
 #include "model.h"
 #include "sayfudhoum.h"
+#include "statement.h"
 
 #include <stdio.h>
 #include <string.h>
@@ -63,19 +65,36 @@ static void put_step(struct question *q, uint8_t cut_by)
     put(q, SAYFUDHOUM_TAG_END, BODY(0), 0);
 }
 
+/* Prints the statements of a clashing part, each behind its index in the question. */
+static void print_part(const uint8_t *part, const uint8_t *indexes, size_t count)
+{
+    const uint8_t *field = part + 5; /* behind the names */
+    for (size_t i = 0; i < count; i++) {
+        printf("  %2u: ", indexes[i]);
+        print_statement(field, &words);
+        printf("\n");
+        field += 3 + field[2];
+    }
+}
+
+/* One call gives both: of an impossible question the clashing part, of a possible one the model in its answer. */
 static int decide(const char *step, uint8_t cut_by)
 {
     struct question question = {{0}, 0};
     put_step(&question, cut_by);
 
+    uint8_t part[SAYFUDHOUM_MAX_QUESTION_LENGTH], indexes[SAYFUDHOUM_MAX_STATEMENTS];
     uint8_t answer[SAYFUDHOUM_MAX_ANSWER_LENGTH];
-    uint64_t result = sayfudhoum_answer(question.bytes, question.length, answer, sizeof answer);
+    uint64_t result = sayfudhoum_clash(question.bytes, question.length, part, sizeof part,
+                                       indexes, sizeof indexes, answer, sizeof answer);
     if (sayfudhoum_refusal(result) != 0) {
         printf("%s: refused by %u at %zu\n", step, sayfudhoum_refusal(result), sayfudhoum_rest(result));
         return 1;
     }
     if (answer[3] == 0) {
         printf("%s: right. That both arms stay kept is impossible.\n", step);
+        printf("These of its statements clash, and none of them can be left out:\n");
+        print_part(part, indexes, sayfudhoum_index_count(result));
     } else {
         struct model model = model_of(answer);
         printf("%s: wrong. Both arms stay kept here:\n", step);

@@ -1,13 +1,16 @@
 /*
- * Damaged files through both functions. The question ends at a page that can't be read, the buffer
- * stands between two, and the bytes beside it are looked at. Refusals and places are compared with
- * the tests' own reader. Of what is accepted, the answer must be an answer file with the verdict of
- * the other call and a model that meets every statement; of small questions, the first model.
+ * Damaged files through all three functions. The question ends at a page that can't be read, each
+ * buffer stands between two, and the bytes beside it are looked at. Refusals and places are compared
+ * with the tests' own reader. Of what is accepted, the answer must be an answer file with the verdict
+ * of the other call and a model that meets every statement; of small questions, the first model. The
+ * clashing part must be that of the tests' own finder, with the same answer.
  *
  *   bad_input [N]    tries every Nth file, 1 if it is left out, and prints how many there were
  */
+#include "clashes.h"
 #include "damage.h"
 #include "files.h"
+#include "finder.h"
 #include "reader.h"
 #include "sayfudhoum.h"
 #include "slices.h"
@@ -36,21 +39,29 @@ static void expect(int fine, const char *otherwise)
     exit(1);
 }
 
-/* Buffers take turns, so that each kind of call is tried at both edges. */
-static uint8_t *next_buffer(size_t room)
+/* Edges take turns, so that each kind of call is tried at both. */
+static enum edge next_edge(void)
 {
     static unsigned turn;
-    return lend_buffer(room, turn++ % 2 == 0 ? BEFORE_PAGE : BEHIND_PAGE);
+    return turn++ % 2 == 0 ? BEFORE_PAGE : BEHIND_PAGE;
 }
 
-/* The question's refusal comes whatever the buffer's length is, and the buffer stays as it was. */
+static uint8_t *next_buffer(size_t room)
+{
+    return lend_buffer(FOR_ANSWER, room, next_edge());
+}
+
+/* The question's refusal comes whatever the buffers' lengths are, and the buffers stay as they were. */
 static void try_refused(uint64_t refusal)
 {
-    size_t room = tried % (SAYFUDHOUM_MAX_ANSWER_LENGTH + 1);
-    uint8_t *buffer = next_buffer(room);
-    uint64_t result = sayfudhoum_answer(question, length, buffer, room);
+    size_t rooms[BUFFERS];
+    for (int each = 0; each < BUFFERS; each++)
+        rooms[each] = tried % (longest_rooms[each] + 1);
+    uint8_t *buffer = next_buffer(rooms[FOR_ANSWER]);
+    uint64_t result = sayfudhoum_answer(question, length, buffer, rooms[FOR_ANSWER]);
     expect(result == refusal, "sayfudhoum_answer refused by another number or at another place");
-    expect(untouched_after(0), "sayfudhoum_answer refused and wrote");
+    expect(untouched_after(FOR_ANSWER, 0), "sayfudhoum_answer refused and wrote");
+    expect(refuses(question, length, rooms, next_edge(), refusal), "sayfudhoum_clash refused otherwise, or wrote");
 }
 
 /* A model must meet every statement. Where everything can be tried, the answer must be the first model. */
@@ -72,12 +83,24 @@ static void try_rooms(const uint8_t *answer, size_t count)
     uint8_t *buffer = next_buffer(count);
     uint64_t result = sayfudhoum_answer(question, length, buffer, count);
     expect(result == count * 256 && memcmp(buffer, answer, count) == 0, "another answer in a buffer of its length");
-    expect(untouched_after(count), "a byte beside the buffer was written");
+    expect(untouched_after(FOR_ANSWER, count), "a byte beside the buffer was written");
 
     buffer = next_buffer(count - 1);
     result = sayfudhoum_answer(question, length, buffer, count - 1);
     expect(result == SAYFUDHOUM_BUFFER_TOO_SHORT, "a buffer too short was not refused by 10");
-    expect(untouched_after(0), "a buffer too short was written");
+    expect(untouched_after(FOR_ANSWER, 0), "a buffer too short was written");
+}
+
+/* The clashing part, with this answer, in buffers that are long enough, just so, and a byte too short. */
+static void try_clash(const uint8_t *answer, size_t count)
+{
+    struct clash clash;
+    find_clash(question, length, &clash);
+    memcpy(clash.bytes[FOR_ANSWER], answer, count);
+    clash.lengths[FOR_ANSWER] = count;
+    expect(leaves(question, length, longest_rooms, next_edge(), &clash), "another clashing part than the tests find");
+    expect(leaves(question, length, clash.lengths, next_edge(), &clash), "another clashing part in just enough room");
+    expect(refuses_short(question, length, next_edge(), &clash), "a clash in too little room was not refused by 10");
 }
 
 static void try_accepted(const struct question *asked, uint64_t verdict)
@@ -87,15 +110,16 @@ static void try_accepted(const struct question *asked, uint64_t verdict)
     uint64_t result = sayfudhoum_answer(question, length, buffer, sizeof answer);
     size_t count = sayfudhoum_rest(result);
     expect(sayfudhoum_refusal(result) == 0 && count <= sizeof answer, "sayfudhoum_answer refused a sound question");
-    expect(untouched_after(count), "a byte past the answer was written");
+    expect(untouched_after(FOR_ANSWER, count), "a byte past the answer was written");
     memcpy(answer, buffer, count);
 
     struct model model;
     int said = read_answer(answer, count, asked, &model);
     expect(said >= 0, "what was written is no answer file");
-    expect(verdict == (said ? 256 : 0), "the two calls differ");
+    expect(verdict == (said ? 256 : 0), "answer and verdict differ");
     judge(asked, said, &model);
     try_rooms(answer, count);
+    try_clash(answer, count);
     if (said)
         possible++;
     else

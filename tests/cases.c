@@ -1,7 +1,7 @@
 /*
- * Cases A to N, and the longest answer, through both functions. The buffer is exactly long enough, or
- * longer, and the bytes past the answer keep their values; or it is too short, and the call is refused
- * by 10 and writes nothing.
+ * Cases A to N, and the longest answer, as answers and as verdicts; clash.c has their clashing parts. The
+ * buffer is exactly long enough, or longer, and the bytes past the answer keep their values; or it is
+ * too short, and the call is refused by 10 and writes nothing.
  */
 #include "sayfudhoum.h"
 #include "slices.h"
@@ -19,18 +19,19 @@ struct files {
 static int answers(const struct files *files, size_t buffer_length, enum edge edge)
 {
     const uint8_t *question = lend_question(files->question, files->question_length);
-    uint8_t *buffer = lend_buffer(buffer_length, edge);
+    uint8_t *buffer = lend_buffer(FOR_ANSWER, buffer_length, edge);
     uint64_t result = sayfudhoum_answer(question, files->question_length, buffer, buffer_length);
     return result == files->answer_length * 256 && memcmp(buffer, files->answer, files->answer_length) == 0
-        && untouched_after(files->answer_length);
+        && untouched_after(FOR_ANSWER, files->answer_length);
 }
 
 /* Whether a buffer of this length is refused by 10, at 0, and left as it is. */
 static int too_short(const struct files *files, size_t buffer_length, enum edge edge)
 {
     const uint8_t *question = lend_question(files->question, files->question_length);
-    uint8_t *buffer = lend_buffer(buffer_length, edge);
-    return sayfudhoum_answer(question, files->question_length, buffer, buffer_length) == 0x0A && untouched_after(0);
+    uint8_t *buffer = lend_buffer(FOR_ANSWER, buffer_length, edge);
+    return sayfudhoum_answer(question, files->question_length, buffer, buffer_length) == 0x0A
+        && untouched_after(FOR_ANSWER, 0);
 }
 
 static int verdict(const struct files *files)

@@ -1,4 +1,5 @@
 /* The edges of document 01, and refusals in the order in which they come: all worked out by hand. */
+#include "clashes.h"
 #include "sayfudhoum.h"
 #include "slices.h"
 #include "table.h"
@@ -73,23 +74,26 @@ static const struct edge_case {
     {"a in x with the highest names", NAMES_8_16 "12 00 02 07 0F " END, 0, 0},
 };
 
-/* Both functions refuse it so, or neither does. A refused question is never refused by 10, and nothing is written. */
+/* All functions refuse it so, or none does. A refused question is never refused by 10, and nothing is written. */
 static int as_expected(const struct edge_case *edge_case)
 {
     uint8_t bytes[SAYFUDHOUM_MAX_QUESTION_LENGTH + 6];
     size_t length = from_hex(edge_case->question, bytes);
     const uint8_t *question = lend_question(bytes, length);
     uint64_t verdict = sayfudhoum_verdict(question, length);
+    static const size_t no_rooms[BUFFERS] = {0};
     if (edge_case->refusal == 0)
-        return sayfudhoum_refusal(verdict) == 0;
+        return sayfudhoum_refusal(verdict) == 0
+            && refuses(question, length, no_rooms, BEFORE_PAGE, SAYFUDHOUM_BUFFER_TOO_SHORT);
     if (sayfudhoum_refusal(verdict) != edge_case->refusal || sayfudhoum_rest(verdict) != edge_case->place)
         return 0;
     for (size_t room = 0; room <= SAYFUDHOUM_MAX_ANSWER_LENGTH; room++) {
-        uint8_t *buffer = lend_buffer(room, BEFORE_PAGE);
-        if (sayfudhoum_answer(question, length, buffer, room) != verdict || !untouched_after(0))
+        uint8_t *buffer = lend_buffer(FOR_ANSWER, room, BEFORE_PAGE);
+        if (sayfudhoum_answer(question, length, buffer, room) != verdict || !untouched_after(FOR_ANSWER, 0))
             return 0;
     }
-    return 1;
+    return refuses(question, length, no_rooms, BEFORE_PAGE, verdict)
+        && refuses(question, length, longest_rooms, BEFORE_PAGE, verdict);
 }
 
 int main(void)

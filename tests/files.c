@@ -128,3 +128,29 @@ void random_file(struct file *file)
         put_random_statement(file, elements, sets);
     put_field(file, 0x7F, 0, 0, 0, 0);
 }
+
+/* Whether a name stands twice in the statement. */
+static int repeats(const uint8_t *field)
+{
+    const char *sorts = body_of(field[0]);
+    for (size_t i = 0; sorts[i] != '\0'; i++)
+        for (size_t j = 0; j < i; j++)
+            if (sorts[i] == sorts[j] && field[3 + i] == field[3 + j])
+                return 1;
+    return 0;
+}
+
+void crowded_file(struct file *file)
+{
+    uint8_t elements = (uint8_t)(2 + random_below(5)), sets = (uint8_t)(6 + random_below(8));
+    begin(file, elements, sets);
+    size_t left = random_below(4) == 0 ? 64 : 12 + random_below(24);
+    for (; left > 0; left--) {
+        size_t start = file->length;
+        do {
+            file->length = start;
+            put_random_statement(file, elements, sets);
+        } while (repeats(file->bytes + start));
+    }
+    put_field(file, 0x7F, 0, 0, 0, 0);
+}

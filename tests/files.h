@@ -26,4 +26,7 @@ uint8_t random_below(size_t bound);
 /* A question drawn at random. It may have too many statements x != y; nothing else is wrong with it. */
 void random_file(struct file *file);
 
+/* The same, with many statements, none of which clashes or says nothing by itself. Most are impossible. */
+void crowded_file(struct file *file);
+
 #endif

@@ -1,6 +1,6 @@
 /*
  * The header by itself, first and twice, as C99 and as C++11: its constants are document 01's
- * numbers, both functions link, and a result comes apart.
+ * numbers, all three functions link, and a result comes apart.
  */
 #include "sayfudhoum.h"
 #include "sayfudhoum.h"
@@ -44,8 +44,43 @@ SAME(BUFFER_TOO_SHORT, 10);
 SAME(BAD_MODEL, 11);
 SAME(BAD_ROW, 12);
 
+/* A result of sayfudhoum_clash comes apart into its three counts. */
+static int counts(uint64_t result, size_t part, size_t indexes, size_t answer)
+{
+    return sayfudhoum_part_length(result) == part && sayfudhoum_index_count(result) == indexes
+        && sayfudhoum_clash_answer_length(result) == answer;
+}
+
+/*
+ * The numbers are worked out by hand, 256 times the rest. Case C, its own part: 18 + 2^16 * 2 + 2^24 * 7.
+ * Each count at its limit: 392 + 2^16 * 64 + 2^24 * 49. No indexes: 8 + 2^24 * 13. And every bit in use,
+ * where no count may take a bit of another.
+ */
+static int counts_come_apart(void)
+{
+    return counts(UINT64_C(30098330112), 18, 2, 7) && counts(UINT64_C(211527239680), 392, 64, 49)
+        && counts(UINT64_C(55834576896), 8, 0, 13) && counts(UINT64_MAX, 65535, 255, 4294967295u);
+}
+
+/* Case C, e0 != e1 and e0 = e1, is impossible, and both statements are needed: the first of the numbers above. */
+static int clashes(void)
+{
+    static const uint8_t question[] = {SAYFUDHOUM_TAG_NAMES,           0, 2, 2, 0,
+                                       SAYFUDHOUM_TAG_ELEMENTS_DIFFER, 0, 2, 0, 1,
+                                       SAYFUDHOUM_TAG_ELEMENTS_EQUAL,  0, 2, 0, 1,
+                                       SAYFUDHOUM_TAG_END,             0, 0};
+    uint8_t part[SAYFUDHOUM_MAX_QUESTION_LENGTH], indexes[SAYFUDHOUM_MAX_STATEMENTS];
+    uint8_t answer[SAYFUDHOUM_MAX_ANSWER_LENGTH];
+    return sayfudhoum_clash(question, sizeof question, part, sizeof part, indexes, sizeof indexes,
+                            answer, sizeof answer) == UINT64_C(30098330112)
+        && indexes[0] == 0 && indexes[1] == 1;
+}
+
 int main(void)
 {
+    if (!counts_come_apart() || !clashes())
+        return 1;
+
     /* Case A, where nothing is declared or stated: possible, and its answer has 13 bytes. */
     static const uint8_t question[] = {SAYFUDHOUM_TAG_NAMES, 0, 2, 0, 0, SAYFUDHOUM_TAG_END, 0, 0};
     uint8_t answer[SAYFUDHOUM_MAX_ANSWER_LENGTH];

@@ -21,8 +21,10 @@ const uint8_t *lend_question(const uint8_t *bytes, size_t length)
     return question;
 }
 
-static uint8_t *buffer;
-static size_t buffer_length;
+static struct lent {
+    uint8_t *bytes;
+    size_t length;
+} lent_buffers[BUFFERS];
 
 static uint8_t value_at(size_t index)
 {
@@ -30,20 +32,22 @@ static uint8_t value_at(size_t index)
 }
 
 /* Memcheck guards both edges of an allocation. */
-uint8_t *lend_buffer(size_t length, enum edge edge)
+uint8_t *lend_buffer(enum buffer buffer, size_t length, enum edge edge)
 {
+    struct lent *lent = &lent_buffers[buffer];
     (void)edge;
-    buffer = fresh(buffer, length);
-    buffer_length = length;
+    lent->bytes = fresh(lent->bytes, length);
+    lent->length = length;
     for (size_t i = 0; i < length; i++)
-        buffer[i] = value_at(i);
-    return buffer;
+        lent->bytes[i] = value_at(i);
+    return lent->bytes;
 }
 
-int untouched_after(size_t count)
+int untouched_after(enum buffer buffer, size_t count)
 {
-    for (size_t i = count; i < buffer_length; i++)
-        if (buffer[i] != value_at(i))
+    const struct lent *lent = &lent_buffers[buffer];
+    for (size_t i = count; i < lent->length; i++)
+        if (lent->bytes[i] != value_at(i))
             return 0;
     return 1;
 }

@@ -31,11 +31,11 @@ const uint8_t *lend_question(const uint8_t *bytes, size_t length)
     return question;
 }
 
-static struct {
+static struct lent {
     uint8_t *area;
     size_t start, end;       /* of the buffer in the area */
     size_t looked_at[2];     /* start and end of what is filled and looked at */
-} lent;
+} lent_buffers[BUFFERS];
 
 /* No two neighbours are the same, so that a byte that is moved by one is seen too. */
 static uint8_t value_at(size_t index)
@@ -43,23 +43,25 @@ static uint8_t value_at(size_t index)
     return (uint8_t)(0xA5 ^ index);
 }
 
-uint8_t *lend_buffer(size_t length, enum edge edge)
+uint8_t *lend_buffer(enum buffer buffer, size_t length, enum edge edge)
 {
-    if (lent.area == NULL)
-        lent.area = new_area();
-    lent.start = edge == BEHIND_PAGE ? 0 : LONGEST_SLICE - length;
-    lent.end = lent.start + length;
-    lent.looked_at[0] = lent.start < BESIDE ? 0 : lent.start - BESIDE;
-    lent.looked_at[1] = LONGEST_SLICE - lent.end < BESIDE ? LONGEST_SLICE : lent.end + BESIDE;
-    for (size_t i = lent.looked_at[0]; i < lent.looked_at[1]; i++)
-        lent.area[i] = value_at(i);
-    return lent.area + lent.start;
+    struct lent *lent = &lent_buffers[buffer];
+    if (lent->area == NULL)
+        lent->area = new_area();
+    lent->start = edge == BEHIND_PAGE ? 0 : LONGEST_SLICE - length;
+    lent->end = lent->start + length;
+    lent->looked_at[0] = lent->start < BESIDE ? 0 : lent->start - BESIDE;
+    lent->looked_at[1] = LONGEST_SLICE - lent->end < BESIDE ? LONGEST_SLICE : lent->end + BESIDE;
+    for (size_t i = lent->looked_at[0]; i < lent->looked_at[1]; i++)
+        lent->area[i] = value_at(i);
+    return lent->area + lent->start;
 }
 
-int untouched_after(size_t count)
+int untouched_after(enum buffer buffer, size_t count)
 {
-    for (size_t i = lent.looked_at[0]; i < lent.looked_at[1]; i++)
-        if ((i < lent.start || i >= lent.start + count) && lent.area[i] != value_at(i))
+    const struct lent *lent = &lent_buffers[buffer];
+    for (size_t i = lent->looked_at[0]; i < lent->looked_at[1]; i++)
+        if ((i < lent->start || i >= lent->start + count) && lent->area[i] != value_at(i))
             return 0;
     return 1;
 }

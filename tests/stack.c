@@ -1,5 +1,5 @@
 /*
- * How much stack the two functions touch. Each is called in a thread whose stack was painted, and then
+ * How much stack the three functions touch. Each is called in a thread whose stack was painted, and then
  * the lowest byte that has lost its paint is looked for. The header promises 32 KiB at most.
  */
 #define _POSIX_C_SOURCE 200809L /* pthread_attr_setstack */
@@ -14,7 +14,8 @@
 
 enum { PROMISED = 32 * 1024, STACK = 128 * 1024, PAINT = 0xC3, RANDOM_FILES = 300 };
 
-enum function { ANSWER, VERDICT, FUNCTIONS };
+enum function { ANSWER, VERDICT, CLASH, FUNCTIONS };
+static const char *const names[FUNCTIONS] = {"sayfudhoum_answer", "sayfudhoum_verdict", "sayfudhoum_clash"};
 
 struct call {
     enum function function;
@@ -25,12 +26,21 @@ struct call {
 static void *run(void *argument)
 {
     struct call *call = argument;
+    static uint8_t part[SAYFUDHOUM_MAX_QUESTION_LENGTH], indexes[SAYFUDHOUM_MAX_STATEMENTS]; /* not on this stack */
     uint8_t answer[SAYFUDHOUM_MAX_ANSWER_LENGTH];
     call->top = (uintptr_t)answer;
-    if (call->function == ANSWER)
+    switch (call->function) {
+    case ANSWER:
         sayfudhoum_answer(call->file->bytes, call->file->length, answer, sizeof answer);
-    else
+        break;
+    case VERDICT:
         sayfudhoum_verdict(call->file->bytes, call->file->length);
+        break;
+    default:
+        sayfudhoum_clash(call->file->bytes, call->file->length, part, sizeof part, indexes, sizeof indexes,
+                         answer, sizeof answer);
+        break;
+    }
     return NULL;
 }
 
@@ -84,6 +94,12 @@ int main(void)
         random_file(&file);
         measure(&file);
     }
-    printf("bytes of stack: sayfudhoum_answer %zu, sayfudhoum_verdict %zu\n", most[ANSWER], most[VERDICT]);
-    return most[ANSWER] > PROMISED || most[VERDICT] > PROMISED;
+    int failed = 0;
+    printf("bytes of stack:");
+    for (int function = 0; function < FUNCTIONS; function++) {
+        printf("%s %s %zu", function == 0 ? "" : ",", names[function], most[function]);
+        failed |= most[function] > PROMISED;
+    }
+    printf("\n");
+    return failed;
 }

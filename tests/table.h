@@ -1,4 +1,4 @@
-/* Cases A to N of document 01 and one with the longest answer, as bytes in hexadecimal. */
+/* Cases A to N of document 01 and one with the longest answer, with their clashing parts, as bytes in hexadecimal. */
 #ifndef TABLE_H
 #define TABLE_H
 
@@ -9,6 +9,8 @@ struct example {
     const char *name;
     const char *question; /* in hexadecimal, with spaces between the bytes */
     const char *answer;
+    const char *part;     /* the clashing part */
+    const char *indexes;  /* of its statements in the question */
 };
 
 enum { EXAMPLES = 15 };

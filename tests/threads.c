@@ -1,4 +1,4 @@
-/* Several threads decide cases A to N at the same time, each with buffers of its own. */
+/* Several threads decide cases A to N and find their clashing parts at once, each with buffers of its own. */
 #include "sayfudhoum.h"
 #include "table.h"
 
@@ -25,12 +25,30 @@ static int decides(const struct example *example)
         && sayfudhoum_verdict(question, question_length) == expected[3] * UINT64_C(256);
 }
 
+/* Whether these are the bytes of the text. */
+static int reads(const uint8_t *bytes, size_t count, const char *text)
+{
+    uint8_t expected[SAYFUDHOUM_MAX_QUESTION_LENGTH];
+    return count == from_hex(text, expected) && memcmp(bytes, expected, count) == 0;
+}
+
+static int finds(const struct example *example)
+{
+    uint8_t question[SAYFUDHOUM_MAX_QUESTION_LENGTH], part[SAYFUDHOUM_MAX_QUESTION_LENGTH];
+    uint8_t indexes[SAYFUDHOUM_MAX_STATEMENTS], answer[SAYFUDHOUM_MAX_ANSWER_LENGTH];
+    uint64_t result = sayfudhoum_clash(question, from_hex(example->question, question), part, sizeof part,
+                                       indexes, sizeof indexes, answer, sizeof answer);
+    return sayfudhoum_refusal(result) == 0 && reads(part, sayfudhoum_part_length(result), example->part)
+        && reads(indexes, sayfudhoum_index_count(result), example->indexes)
+        && reads(answer, sayfudhoum_clash_answer_length(result), example->answer);
+}
+
 static void *work(void *argument)
 {
     struct worker *worker = argument;
     for (size_t i = 0; i < CALLS; i++) {
         const struct example *example = &examples[(worker->first + i) % EXAMPLES];
-        if (!decides(example))
+        if (!decides(example) || !finds(example))
             worker->failed = example->name;
     }
     return NULL;
