@@ -3,7 +3,9 @@
  * line is written: the name, the verdict (1 possible, 0 impossible) and the nanoseconds of processor time
  * that one call of sayfudhoum_answer took, from question bytes to answer bytes. A batch repeats the call
  * until it has lasted long enough to be timed, and the shortest of several batches counts: five, or as
- * many as the argument says.
+ * many as the first argument says. With a second argument, whatever it is, the line of an impossible
+ * question goes on: the nanoseconds of one call of sayfudhoum_clash, and the clashing part, a question in
+ * hexadecimal. That of a possible question stays as it is.
  */
 #define _POSIX_C_SOURCE 200809L /* clock_gettime */
 #include "sayfudhoum.h"
@@ -18,6 +20,18 @@ static const double batch_length = 1e6; /* nanoseconds */
 static uint8_t question[SAYFUDHOUM_MAX_QUESTION_LENGTH];
 static size_t length;
 static uint8_t answer[SAYFUDHOUM_MAX_ANSWER_LENGTH];
+static uint8_t part[SAYFUDHOUM_MAX_QUESTION_LENGTH];
+static uint8_t indexes[SAYFUDHOUM_MAX_STATEMENTS];
+
+static uint64_t decide(void)
+{
+    return sayfudhoum_answer(question, length, answer, sizeof answer);
+}
+
+static uint64_t clash(void)
+{
+    return sayfudhoum_clash(question, length, part, sizeof part, indexes, sizeof indexes, answer, sizeof answer);
+}
 
 static double now(void)
 {
@@ -27,25 +41,25 @@ static double now(void)
 }
 
 /* The nanoseconds that so many calls take. */
-static double batch(long calls)
+static double batch(uint64_t (*call)(void), long calls)
 {
     double start = now();
     for (long i = 0; i < calls; i++)
-        sayfudhoum_answer(question, length, answer, sizeof answer);
+        call();
     return now() - start;
 }
 
 /* The nanoseconds of one call. */
-static double shortest(int batches)
+static double shortest(uint64_t (*call)(void), int batches)
 {
     long calls = 1;
-    double taken = batch(calls);
+    double taken = batch(call, calls);
     while (taken < batch_length) {
         calls *= 2;
-        taken = batch(calls);
+        taken = batch(call, calls);
     }
     for (int i = 1; i < batches; i++) {
-        double again = batch(calls);
+        double again = batch(call, calls);
         if (again < taken)
             taken = again;
     }
@@ -62,12 +76,19 @@ int main(int count, char **words)
             return 2;
         for (length = 0; length < sizeof question && sscanf(hex + 2 * length, "%2x", &byte) == 1; length++)
             question[length] = (uint8_t)byte;
-        uint64_t result = sayfudhoum_answer(question, length, answer, sizeof answer);
+        uint64_t result = decide();
         if (sayfudhoum_refusal(result) != 0) {
             fprintf(stderr, "%s: refused by %u at %zu\n", name, sayfudhoum_refusal(result), sayfudhoum_rest(result));
             return 2;
         }
-        printf("%s %d %.0f\n", name, answer[3], shortest(batches));
+        printf("%s %d %.0f", name, answer[3], shortest(decide, batches));
+        if (count > 2 && answer[3] == 0) {
+            size_t written = sayfudhoum_part_length(clash());
+            printf(" %.0f ", shortest(clash, batches));
+            for (size_t i = 0; i < written; i++)
+                printf("%02x", part[i]);
+        }
+        printf("\n");
         fflush(stdout);
     }
     return 0;

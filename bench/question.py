@@ -35,6 +35,8 @@ SMT = {
     'inter': '(= s{} (set.inter s{} s{}))', 'minus': '(= s{} (set.minus s{} s{}))',
 }
 
+SMT_CORE = '(get-unsat-core)\n'
+
 
 def smt_names(elements, sets):
     """The head of an SMT-LIB file: the logic, and the names with their two sorts."""
@@ -43,8 +45,26 @@ def smt_names(elements, sets):
                      + [f'(declare-const s{x} (Set E))' for x in range(sets)]) + '\n'
 
 
-def smt_statements(question):
-    return ''.join(f'(assert {SMT[kind].format(*names)})\n' for kind, *names in question[2]) + '(check-sat)\n'
+def smt_statements(question, named=False):
+    """The statements and the command to decide; if named they are a0, a1 .., as a core then calls them."""
+    assertion = '(assert (! {} :named a{}))\n' if named else '(assert {})\n'
+    return ''.join(assertion.format(SMT[kind].format(*names), index)
+                   for index, (kind, *names) in enumerate(question[2])) + '(check-sat)\n'
+
+
+def to_smt(question, core=False):
+    return smt_names(*question[:2]) + smt_statements(question, core) + (SMT_CORE if core else '')
+
+
+def part(text, indexes):
+    """The question with only these of its statements, both in hexadecimal."""
+    elements, sets, statements = from_hex(text)
+    return to_hex((elements, sets, [statements[index] for index in indexes]))
+
+
+def size(text):
+    """How many statements the question in hexadecimal has."""
+    return len(from_hex(text)[2])
 
 
 def to_dimacs(question):

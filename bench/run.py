@@ -1,5 +1,6 @@
 #!/usr/bin/env python3
-"""Times this library and other solvers on the stored questions, compares all verdicts and prints ratios.
+"""Times this library and other solvers on the stored questions, compares all verdicts and prints ratios. Then the
+same for the clashing part of each impossible question, beside the minimal unsat core of cvc5.
 
     bench/run.py DRIVER WORDS..     the command that runs the built driver.c
 
@@ -8,6 +9,7 @@ another solver is not counted, nor is the start of cvc5 where one process takes 
 """
 import os
 import platform
+import re
 import shutil
 import subprocess
 import sys
@@ -15,22 +17,38 @@ import tempfile
 import time
 from datetime import date
 from pathlib import Path
-from statistics import median
+from statistics import mean, median
 
-from question import from_hex, smt_names, smt_statements, to_dimacs
+from question import SMT_CORE, from_hex, part, size, smt_names, smt_statements, to_dimacs, to_smt
 
 RUNS = 3
 LIMIT = 20  # seconds that cvc5 may take for a question
+SAMPLE = 5  # every fifth of the library's clashing parts is checked by cvc5
+CORE = ['--produce-unsat-cores', '--minimal-unsat-cores']
 
-# Each solver gives a dictionary: of a question's name the verdict (1, 0, or None if there is none) and the seconds.
+# Each solver gives a dictionary: of a question's name the verdict (1, 0, or None if there is none), the seconds, and,
+# where it was asked for it, the clashing part, a question in hexadecimal.
 
 
-def library(driver, questions):
+def library(driver, questions, batches=5):
+    """Two dictionaries: of all questions, and of the clashes of those that are impossible."""
     # An emulator does the processor's string instructions byte by byte, so memset must not use them.
     tune = {} if platform.machine() == 'x86_64' else {'GLIBC_TUNABLES': 'glibc.cpu.hwcaps=-ERMS,-FSRM'}
     lines = ''.join(f'{name} {text}\n' for name, text in questions.items())
-    done = subprocess.run(driver, input=lines, stdout=subprocess.PIPE, text=True, check=True, env={**os.environ, **tune})
-    return {name: (int(verdict), float(time) / 1e9) for name, verdict, time in map(str.split, done.stdout.splitlines())}
+    done = subprocess.run([*driver, str(batches), 'clash'], input=lines, stdout=subprocess.PIPE, text=True, check=True,
+                          env={**os.environ, **tune})
+    answers, clashes = {}, {}
+    for name, verdict, taken, *clash in map(str.split, done.stdout.splitlines()):
+        answers[name] = int(verdict), float(taken) / 1e9, None
+        if clash:
+            clashes[name] = int(verdict), float(clash[0]) / 1e9, clash[1]
+    return answers, clashes
+
+
+def understood(text, says):
+    """The verdict and the part in what cvc5 says of a question: the verdict, and maybe a core, one name a line."""
+    return ({'sat': 1, 'unsat': 0}.get(says.partition('\n')[0]),
+            part(text, sorted(map(int, re.findall(r'^a(\d+)$', says, re.MULTILINE)))))
 
 
 def one_process(command, encode):
@@ -48,44 +66,58 @@ def one_process(command, encode):
                         (os.POSIX_SPAWN_OPEN, 2, os.devnull, os.O_WRONLY, 0)])
                     _, status, usage = os.wait4(pid, 0)
                     taken.append(usage.ru_utime + usage.ru_stime)
-                says = Path(out).read_text().strip() if command[0] == 'cvc5' else os.waitstatus_to_exitcode(status)
-                results[name] = {'sat': 1, 'unsat': 0, 10: 1, 20: 0}.get(says), min(taken)
+                verdict, core = (understood(text, Path(out).read_text()) if command[0] == 'cvc5' else
+                                 ({10: 1, 20: 0}.get(os.waitstatus_to_exitcode(status)), None))
+                results[name] = verdict, min(taken), core
         return results
     return solve
 
 
-def push_pop(questions):
-    """One process of cvc5 for all questions, each between push and pop."""
-    results = {}
-    asked = {name: from_hex(text) for name, text in questions.items()}
-    for _ in range(RUNS):
-        cvc5 = subprocess.Popen(['cvc5', '--lang=smt2', '--incremental', f'--tlimit-per={LIMIT}000', '-'],
-                                stdin=subprocess.PIPE, stdout=subprocess.PIPE, text=True)
-        clock = (~cvc5.pid << 3) | 2  # the number of that process's clock, as clock_getcpuclockid gives it
+def push_pop(core=False, runs=RUNS):
+    """One process of cvc5 for all questions, each between push and pop; with a core of each that is impossible."""
+    def solve(questions):
+        results = {}
+        asked = {name: from_hex(text) for name, text in questions.items()}
+        for _ in range(runs):
+            command = ['cvc5', '--lang=smt2', '--incremental', f'--tlimit-per={LIMIT}000', *(CORE if core else []), '-']
+            cvc5 = subprocess.Popen(command, stdin=subprocess.PIPE, stdout=subprocess.PIPE, text=True)
+            clock = (~cvc5.pid << 3) | 2  # the number of that process's clock, as clock_getcpuclockid gives it
 
-        def ask(text):
-            start = time.clock_gettime(clock)
-            cvc5.stdin.write(text)
-            cvc5.stdin.flush()
-            says = cvc5.stdout.readline().strip()
-            time.sleep(0.001)  # the clock is exact once cvc5 waits again
-            return {'sat': 1, 'unsat': 0}.get(says), time.clock_gettime(clock) - start
+            def ask(text):
+                start = time.clock_gettime(clock)
+                cvc5.stdin.write(text)
+                cvc5.stdin.flush()
+                says = line = cvc5.stdout.readline()
+                while says.startswith('(\n') and line not in (')\n', ''):
+                    line = cvc5.stdout.readline()
+                    says += line
+                time.sleep(0.001)  # the clock is exact once cvc5 waits again
+                return says, time.clock_gettime(clock) - start
 
-        names = smt_names(max(q[0] for q in asked.values()), max(q[1] for q in asked.values()))
-        ask(names + '(push 1)\n(echo "ready")\n')
-        for name, question in asked.items():
-            verdict, taken = ask('(pop 1)\n(push 1)\n' + smt_statements(question))
-            results[name] = verdict, min(taken, results.get(name, (None, taken))[1])
-        cvc5.communicate()
-    return results
+            names = smt_names(max(q[0] for q in asked.values()), max(q[1] for q in asked.values()))
+            ask(names + '(push 1)\n(echo "ready")\n')
+            for name, question in asked.items():
+                says, taken = ask('(pop 1)\n(push 1)\n' + smt_statements(question, core))
+                if core and says == 'unsat\n':
+                    found, more = ask(SMT_CORE)
+                    says, taken = says + found, taken + more
+                verdict, found = understood(questions[name], says)
+                results[name] = verdict, min(taken, results.get(name, (None, taken))[1]), found
+            cvc5.communicate()
+        return results
+    return solve
 
 
+CVC5 = ['cvc5', '--lang=smt2', f'--tlimit={LIMIT}000']
 SOLVERS = {
-    'cvc5, push and pop': ('cvc5', push_pop),
-    'cvc5, a process': ('cvc5', one_process(['cvc5', '--lang=smt2', f'--tlimit={LIMIT}000'],
-                                            lambda q: smt_names(q[0], q[1]) + smt_statements(q))),
+    'cvc5, push and pop': ('cvc5', push_pop()),
+    'cvc5, a process': ('cvc5', one_process(CVC5, to_smt)),
     'minisat, a process': ('minisat', one_process(['minisat', '-verb=0'], to_dimacs)),
     'cadical, a process': ('cadical', one_process(['cadical', '-q', '-n'], to_dimacs)),
+}
+CORES = {
+    'core by cvc5, push and pop': ('cvc5', push_pop(core=True)),
+    'core by cvc5, a process': ('cvc5', one_process(CVC5 + CORE, lambda question: to_smt(question, core=True))),
 }
 
 
@@ -94,40 +126,115 @@ def readable(seconds):
     return f'{seconds * factor:.3g} {unit}'
 
 
+def own_times(own):
+    times = [taken for _, taken, _ in own.values()]
+    return readable(median(times)), readable(max(times)), readable(sum(times))
+
+
 def ratios(own, other):
     """Median and worst over the questions, and that of the totals: how many times longer the other took."""
     each = sorted(other[name][1] / own[name][1] for name in own)
     return ' / '.join(f'{r:.0f}' if r >= 9.5 else f'{r:.2g}' for r in (
-        median(each), each[0], sum(t for _, t in other.values()) / sum(t for _, t in own.values())))
+        median(each), each[0], sum(t for _, t, _ in other.values()) / sum(t for _, t, _ in own.values())))
+
+
+def sizes(own, other, spared):
+    """The mean size of the cores; how often the library's part is smaller, the core is, and the core isn't minimal."""
+    pairs = [(size(own[name][2]), size(core)) for name, (_, _, core) in other.items()]
+    return (f'{mean(core for _, core in pairs):.1f}: {sum(ours < core for ours, core in pairs)} / '
+            f'{sum(core < ours for ours, core in pairs)} / {spared}')
+
+
+def print_row(*cells):
+    print('| ' + ' | '.join(map(str, cells)) + ' |', flush=True)
+
+
+def print_titles(*titles):
+    print_row(*titles)
+    print('|---' * len(titles) + '|')
+
+
+def other_verdicts(own, others):
+    return [f'{name}: {verdict}, but {title} says {other[name][0]}' for name, (verdict, _, _) in own.items()
+            for title, other in others.items() if other[name][0] != verdict]
+
+
+def check_cores(driver, title, other):
+    """Which cores are possible by the library, and how many have a statement that can be spared."""
+    cores = {name: core for name, (verdict, _, core) in other.items() if verdict == 0}
+    answers, clashes = library(driver, cores, batches=1)
+    return ([f'{name}: {title} is possible' for name in answers if name not in clashes],
+            sum(size(needed) < size(cores[name]) for name, (_, _, needed) in clashes.items()))
+
+
+def check_parts(own):
+    """Which of the library's parts aren't impossible by cvc5, or have a statement that can be spared."""
+    asked = {}
+    for name, (_, _, text) in list(own.items())[::SAMPLE]:
+        every = range(size(text))
+        asked |= {name: text, **{f'{name} without {i}': part(text, [j for j in every if j != i]) for i in every}}
+    return [f'the part of {name}: cvc5 says {verdict}' for name, (verdict, _, _) in push_pop(runs=1)(asked).items()
+            if verdict != (0 if name in own else 1)]
+
+
+def compare_answers(driver, solvers, details):
+    """Prints the table of all questions; gives the differences, and of each family the clashes and their questions."""
+    differences, families = [], {}
+    print_titles('family', 'questions', 'possible', 'median', 'worst', 'total', *solvers)
+    for file in sorted(Path(__file__).with_name('questions').glob('*.txt')):
+        questions = dict(line.split() for line in file.read_text().splitlines())
+        own, clashes = library(driver, questions)
+        others = {title: solve(questions) for title, solve in solvers.items()}
+        print_row(file.stem, len(own), sum(verdict for verdict, _, _ in own.values()), *own_times(own),
+                  *(ratios(own, other) for other in others.values()))
+        differences += other_verdicts(own, others)
+        if clashes:
+            families[file.stem] = clashes, {name: questions[name] for name in clashes}
+        for name, (verdict, _, _) in own.items():
+            details[name] = [verdict, *(f'{results[name][1] * 1e6:.1f}' for results in (own, *others.values()))]
+    return differences, families
+
+
+def compare_clashes(driver, solvers, details, families):
+    """Prints the table of the impossible questions, and gives the differences."""
+    differences = []
+    print_titles('family', 'impossible', 'median', 'worst', 'total', *solvers, 'statements', 'in the part',
+                 *(f'in the {title}' for title in solvers))
+    for family, (own, questions) in families.items():
+        others = {title: solve(questions) for title, solve in solvers.items()}
+        differences += other_verdicts(own, others) + (check_parts(own) if others else [])
+        cells = []
+        for title, other in others.items():
+            possible, spared = check_cores(driver, title, other)
+            differences += possible
+            cells.append(sizes(own, other, spared))
+        print_row(family, len(own), *own_times(own), *(ratios(own, other) for other in others.values()),
+                  f'{mean(map(size, questions.values())):.1f}',
+                  f'{mean(size(text) for _, _, text in own.values()):.1f}', *cells)
+        for name, text in questions.items():
+            results = [own[name], *(other[name] for other in others.values())]
+            details[name] += [*(f'{taken * 1e6:.1f}' for _, taken, _ in results), size(text),
+                              *(size(core) for _, _, core in results)]
+    return differences
 
 
 def main(driver):
-    solvers = {title: solve for title, (command, solve) in SOLVERS.items() if shutil.which(command)}
+    solvers, cores = ({title: solve for title, (command, solve) in all_of.items() if shutil.which(command)}
+                      for all_of in (SOLVERS, CORES))
     for command in sorted({command for command, _ in SOLVERS.values()}):
         if not shutil.which(command):
             print(f'{command} is missing: its columns are left out')
     emulated = '' if platform.machine() == 'x86_64' else ', the library emulated, so that true ratios are higher'
     print(f'{date.today()}, {platform.machine()}{emulated}')
     print('Ratios: how many times longer the other took; median / worst / total\n')
-    titles = ['family', 'questions', 'possible', 'median', 'worst', 'total', *solvers]
-    print('| ' + ' | '.join(titles) + ' |\n' + '|---' * len(titles) + '|')
-
-    differences, details = [], []
-    for file in sorted(Path(__file__).with_name('questions').glob('*.txt')):
-        questions = dict(line.split() for line in file.read_text().splitlines())
-        own = library(driver, questions)
-        others = {title: solve(questions) for title, solve in solvers.items()}
-        times = [taken for _, taken in own.values()]
-        print('| ' + ' | '.join([file.stem, str(len(own)), str(sum(verdict for verdict, _ in own.values())),
-                                 readable(median(times)), readable(max(times)), readable(sum(times)),
-                                 *(ratios(own, other) for other in others.values())]) + ' |', flush=True)
-        for name, (verdict, taken) in own.items():
-            details.append('\t'.join([name, str(verdict), *(f'{t * 1e6:.1f}' for t in (
-                taken, *(other[name][1] for other in others.values())))]))
-            differences += [f'{name}: {verdict}, but {title} says {other[name][0]}'
-                            for title, other in others.items() if other[name][0] != verdict]
-    Path('target/bench.tsv').write_text('\n'.join(['\t'.join(['question', 'verdict', 'this library', *solvers]), *details, '']))
-    print('\n'.join(['', 'Each time in microseconds: target/bench.tsv', f'{len(differences)} verdicts differ', *differences]))
+    details = {'question': ['verdict', 'this library', *solvers, 'clash', *cores, 'statements', 'in the part',
+                            *(f'in the {title}' for title in cores)]}
+    differences, families = compare_answers(driver, solvers, details)
+    print('\nThe clashing parts of the impossible questions; how many statements a question, a part and a core have by the mean;')
+    print('with the core, how often the part is smaller / the core is smaller / the core is not minimal\n')
+    differences += compare_clashes(driver, cores, details, families)
+    Path('target/bench.tsv').write_text(''.join('\t'.join(map(str, [name, *row])) + '\n' for name, row in details.items()))
+    print('\n'.join(['', 'Each time in microseconds: target/bench.tsv', f'{len(differences)} differences', *differences]))
     return 1 if differences else 0
 
 
