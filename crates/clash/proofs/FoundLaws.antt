@@ -1,16 +1,15 @@
 -- What was found: its part is accepted, its indexes stand in front of the array, and its answer, written into a buffer of the longest length, at the front of that.
 use Prim.Native.Nat.{ℕ, _-_, _≤_}
-use mathlib.Core.Path.{_≡_, refl, sym, ap, ap₂, _∙_}
-use mathlib.Core.List.{List, _++_}
+use mathlib.Core.Path.{_≡_, sym, ap, ap₂, _∙_}
+use mathlib.Core.List.{List}
 use native.Mathlib.Omega.{arith}
-use lib.ListN.{length, take, replicate, length-map}
+use lib.ListN.{length, take, replicate}
 use lib.Seq.{take-append-seam, take-at}
 use Rattle.outcome.specs.declared.refusals.Refusal.{Refusal}
 use Rattle.outcome.specs.declared.checks.Check.the-variants.{Accepted}
 use Rattle.outcome.specs.declared.writes.Written.{Written}
 use Rattle.outcome.specs.declared.writes.Written.the-variants.{Count, Refused as NotWritten}
 use Rattle.outcome.specs.Checks.{acceptedThen}
-use Rattle.outcome.specs.Padded.{padded}
 use Rattle.outcome.specs.Writes.{over, fitted, fittedOver}
 use Rattle.outcome.proofs.Never.{never}
 use Rattle.outcome.proofs.WriteLaws.{fits}

@@ -3,6 +3,7 @@ pub mod MeaningLaws
 pub mod DecidedLaws
 pub mod KeptLaws
 pub mod WalkLaws
+pub mod TurnLaws
 pub mod StartLaws
 pub mod PartLaws
 pub mod FoundLaws

@@ -1,20 +1,19 @@
 -- What the clashing part of an accepted question is, in the words of the question's meaning: no assignment meets its statements, and without any one of them some assignment does.
 -- Its statements are those of the question at the indexes, which rise; it is accepted, and its file reads back as it.
-use Prim.Native.Nat.{ℕ, _+_, _≤_, _<_}
-use mathlib.Core.Path.{_≡_, refl, sym, ap, ap₂, subst, _∙_}
+use Prim.Native.Nat.{ℕ, _+_, _≤_}
+use mathlib.Core.Path.{_≡_, refl, sym, ap, subst, _∙_}
 use mathlib.Core.Bool.{Bool, true, false, cond}
 use mathlib.Core.List.{List, [], _∷_}
 use mathlib.Core.Logic.{_↔_, _⊎_, inl, inr, ⊎-elim}
 use native.Mathlib.Omega.{arith}
 use lib.ListN.{length, length-map}
 use Rattle.outcome.specs.declared.checks.Check.the-variants.{Accepted}
-use Rattle.outcome.proofs.Never.{never}
 use Rattle.statement.specs.declared.statements.Statement.{Statement}
 use Rattle.statement.specs.Statements.{witnesses}
 use Rattle.statement.specs.Meaning.{CantHold, CanHold}
 use Rattle.question.specs.declared.questions.Question.{Question}
 use Rattle.question.specs.Limits.{maxTerms}
-use Rattle.question.specs.Questions.{idle, questionOf, statements, termsOf}
+use Rattle.question.specs.Questions.{idle, questionOf, statements}
 use Rattle.question.specs.Checks.{checked, IsAccepted}
 use Rattle.question.specs.Builds.{declaring, without, dropped}
 use Rattle.question.proofs.AcceptedLaws.{accepted}

@@ -5,10 +5,8 @@ use Prim.Native.Nat.{ℕ}
 use Rattle.outcome.specs.declared.refusals.Refusal.{Refusal}
 use Rattle.outcome.specs.declared.checks.Check.the-variants.{Accepted, Refused}
 use Rattle.outcome.specs.Checks.{acceptedThen}
-use Rattle.question.specs.Checks.{checked}
 use Rattle.question_file.specs.declared.reads.ReadQuestion.{ReadQuestion}
 use Rattle.question_file.specs.Reads.{readQuestion}
-use Rattle.question_file.proofs.RoundTrips.{read-checked}
 use Rattle.clash.specs.declared.files.ClashWritten.the-variants.{Refused as NotWritten}
 use Rattle.clash.specs.Files.{Three, threeWritten, threeOver, clashBytes, clashWritten, clashOver}
 
@@ -24,6 +22,3 @@ module _ (bytes : List ℕ) (read : ReadQuestion) (is : read ≡ readQuestion by
       let told = sym (ap (λ x. x .outcome) is) ∙ e in
       let same = sym (ap (λ x. x .question) is) in
       (ap₂ (λ o q. acceptedThen o NotWritten (threeWritten (clashBytes q) old)) told same, ap₂ (λ o q. acceptedThen o (λ r. old) (threeOver (clashBytes q) old)) told same)
-
-  pub checked-read : read .outcome ≡ Accepted → checked (read .question) ≡ Accepted
-  checked-read e = ap (λ x. checked (x .question)) is ∙ read-checked bytes (sym (ap (λ x. x .outcome) is) ∙ e)

@@ -1,13 +1,11 @@
 -- Where the walk over an impossible question may begin: at its first statement; behind it, if what remains without it is impossible; or where it is known to be needed.
-use Prim.Native.Nat.{ℕ, _≤_}
-use mathlib.Core.Path.{_≡_, refl, sym, ap, _∙_}
+use mathlib.Core.Path.{_≡_, refl, ap, _∙_}
 use mathlib.Core.Bool.{true, false}
 use mathlib.Core.Logic.{inl, inr}
 use native.Mathlib.Omega.{arith}
-use Rattle.outcome.specs.declared.checks.Check.the-variants.{Accepted}
 use Rattle.question.specs.declared.questions.Question.{Question}
 use Rattle.question.specs.Limits.{maxStatements}
-use Rattle.question.specs.Checks.{checked, IsAccepted}
+use Rattle.question.specs.Checks.{IsAccepted}
 use Rattle.question.specs.Builds.{dropped}
 use Rattle.question.proofs.AcceptedLaws.{accepted}
 use Rattle.question.proofs.BuildLaws.{dropped-statements}

@@ -71,6 +71,10 @@ module _ (bytes : List ℕ) (e : readQuestion bytes .outcome ≡ Accepted) where
       let f = accepted-file bytes e in
       ap questionBytes (f .made) ∙ ap (fileBytes (f .E) (f .S)) (statements-of (f .E) (f .S) (f .ss) (f .sound .few-statements)) ∙ sym (f .written)
 
+-- the same of what the reader gave back
+pub checked-read : (bytes : List ℕ) (read : ReadQuestion) → read ≡ readQuestion bytes → read .outcome ≡ Accepted → checked (read .question) ≡ Accepted
+checked-read bytes read is e = ap (λ x. checked (x .question)) is ∙ read-checked bytes (sym (ap (λ x. x .outcome) is) ∙ e)
+
 -- the same, of buffers: what is written of n bytes is read back,
 back-from-buffer : (q : Question) (n : ℕ) (old new bytes : List ℕ) → written q (length old) ≡ Count n → new ≡ writtenOver q old → bytes ≡ take n new → readQuestion bytes ≡ back q
 back-from-buffer q n old new bytes w b t =

@@ -22,7 +22,7 @@ use Rattle.outcome.specs.declared.checks.Check.{Check}
 use Rattle.question_file.specs.declared.reads.ReadQuestion.{ReadQuestion}
 use Rattle.question_file.specs.Reads.{readQuestion}
 use Rattle.question_file.proofs.RefusalLaws.{refusal-told}
-use Rattle.question_file.proofs.RoundTrips.{read-checked}
+use Rattle.question_file.proofs.RoundTrips.{read-checked, checked-read}
 use Rattle.outcome.specs.Writes.{over, fitted, fittedOver, checkedThen, checkedOver}
 use Rattle.outcome.proofs.OverLaws.{over-length}
 use Rattle.outcome.proofs.Never.{never}
@@ -77,7 +77,7 @@ module _ (bytes : List ℕ) (read : ReadQuestion) (is : read ≡ readQuestion by
     accepted = sym (ap (λ x. x .outcome) is) ∙ e
 
     pub question-checked : checked q ≡ Accepted
-    question-checked = ap (λ x. checked (x .question)) is ∙ read-checked bytes accepted
+    question-checked = checked-read bytes read is e
 
     same : answerIn bytes ≡ answer q
     same = sym (ap (λ x. answer (x .question)) is)

@@ -1,10 +1,10 @@
 -- `clash_file` goes by whether the file is accepted.
 use denote.Ref.{now}
-use mathlib.Core.Path.{sym, ap, _∙_}
+use mathlib.Core.Path.{sym, _∙_}
 use borrow.Author.Needs.{needs}
-use Rattle.clash.specs.declared.files.ClashWritten.the-variants.{Refused}
 use Rattle.clash.specs.Files.{three}
-use Rattle.clash.proofs.ReadLaws.{refused-read, accepted-read, checked-read}
+use Rattle.question_file.proofs.RoundTrips.{checked-read}
+use Rattle.clash.proofs.ReadLaws.{refused-read, accepted-read}
 use Rattle.clash.proofs.files.clash_file.Statement.{statement}
 use Rattle.clash.proofs.files.clash_file.Tie as tie
 
@@ -12,7 +12,7 @@ write-clash-requires : tie.Need-write-clash-requires
 write-clash-requires c κs =
     let r = c .before .before .before .before .before .before .before in
     let a = r .before .before .before .before .before .args in
-    (checked-read (now (a .bytes)) (r .read-question .result) (r .read-question .ensures) (three (now (a .part)) (now (a .indexes)) (now (a .answer))) (c .before .before .before .before .before .enum-told .given .1), c .before .before .before .clash .ensures)
+    (checked-read (now (a .bytes)) (r .read-question .result) (r .read-question .ensures) (c .before .before .before .before .before .enum-told .given .1), c .before .before .before .clash .ensures)
 
 returns : tie.Need-returns
 returns c =

@@ -1,6 +1,6 @@
 -- `put_three` compares the lengths of two, and the writer of the part its own: refused, nothing is written; else all three.
 use denote.Ref.{now}
-use mathlib.Core.Path.{sym, ap, ap₂, _∙_}
+use mathlib.Core.Path.{sym, ap, _∙_}
 use borrow.Author.Needs.{needs}
 use lib.ListN.{length}
 use Rattle.question_file.specs.Bytes.{questionBytes}

@@ -1,5 +1,5 @@
 -- `walk` keeps a statement, drops a run or learns a bound at each turn; how far it has come goes with it, and either the index grows or the bound falls.
-use Prim.Native.Nat.{_+_, _-_, _*_, _≤_, _<_}
+use Prim.Native.Nat.{_+_, _-_, _*_}
 use mathlib.Core.Path.{_≡_, sym, ap, ap₂, subst, _∙_}
 use mathlib.Core.List.{[]}
 use native.Mathlib.Omega.{arith}
@@ -12,7 +12,7 @@ use Rattle.question.proofs.StatementsLaws.{table-long}
 use Rattle.theory.specs.Answers.{answer}
 use Rattle.clash.specs.Clashes.{isNone, withoutModel}
 use Rattle.clash.proofs.MeaningLaws.{search-none}
-use Rattle.clash.proofs.WalkLaws.{Turn, turn-starts, turn-keeps, turn-has, turn-asks, turn-accepted, turn-drops, turn-bounds, turn-ends}
+use Rattle.clash.proofs.TurnLaws.{Turn, turn-starts, turn-keeps, turn-has, turn-asks, turn-accepted, turn-drops, turn-bounds, turn-ends}
 use Rattle.clash.proofs.walks.walk.Statement.{statement}
 use Rattle.clash.proofs.walks.walk.Tie as tie
 
