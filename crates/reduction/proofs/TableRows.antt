@@ -13,7 +13,7 @@ use Rattle.outcome.specs.declared.refusals.Refusal.{Refusal}
 use Rattle.outcome.specs.declared.checks.Check.{Check}
 use Rattle.outcome.specs.declared.checks.Check.the-variants.{Accepted, Refused}
 use Rattle.outcome.specs.declared.writes.Written.the-variants.{Count, Refused as NotWritten}
-use Rattle.outcome.specs.Refusals.{refusal, tooManyTerms, bufferTooShort}
+use Rattle.outcome.specs.Refusals.{refusal, tooManyNames, bufferTooShort}
 use Rattle.outcome.specs.Writes.{over, fitted, fittedOver}
 use Rattle.outcome.proofs.CheckLaws.{refused-accepted}
 use Rattle.outcome.proofs.Never.{never}
@@ -33,7 +33,7 @@ module _ (q : Question) where
   unfolding termsChecked
   few-terms e = go (ltb maxTerms (termsOf q)) refl e
     where
-      go : (b : Bool) → ltb maxTerms (termsOf q) ≡ b → cond b (Refused (refusal tooManyTerms 0)) Accepted ≡ Accepted → termsOf q ≤ maxTerms
+      go : (b : Bool) → ltb maxTerms (termsOf q) ≡ b → cond b (Refused (refusal tooManyNames 0)) Accepted ≡ Accepted → termsOf q ≤ maxTerms
       go true p e = refused-accepted e
       go false p e = ltb-false maxTerms (termsOf q) p
 
@@ -41,13 +41,13 @@ module _ (q : Question) where
   unfolding termsChecked
   many-terms r e = go (ltb maxTerms (termsOf q)) refl e
     where
-      go : (b : Bool) → ltb maxTerms (termsOf q) ≡ b → cond b (Refused (refusal tooManyTerms 0)) Accepted ≡ Refused r → maxTerms < termsOf q
+      go : (b : Bool) → ltb maxTerms (termsOf q) ≡ b → cond b (Refused (refusal tooManyNames 0)) Accepted ≡ Refused r → maxTerms < termsOf q
       go true p e = ltb-true maxTerms (termsOf q) p
       go false p e = never cc
 
 -- what is answered to a table of more than 12 terms: the buffer then is as it was
 module _ (q : Question) (old : List ℕ) (h : maxTerms < termsOf q) where
-  pub many : (rowsWritten q (length old) ≡ NotWritten (refusal tooManyTerms 0)) × (rowsWrittenOver q old ≡ old)
+  pub many : (rowsWritten q (length old) ≡ NotWritten (refusal tooManyNames 0)) × (rowsWrittenOver q old ≡ old)
   unfolding rowsWritten rowsWrittenOver termsChecked
   many = rw (lt-ltb maxTerms (termsOf q) h) (refl, refl)
 

@@ -5,7 +5,7 @@ use mathlib.Core.List.{List, map}
 use lib.Dec.{ltb}
 use Rattle.outcome.specs.declared.checks.Check.{Check}
 use Rattle.outcome.specs.declared.checks.Check.the-variants.{Accepted, Refused}
-use Rattle.outcome.specs.Refusals.{refusal, tooManyTerms}
+use Rattle.outcome.specs.Refusals.{refusal, tooManyNames}
 use Rattle.outcome.specs.Writes.{fitted, fittedOver, checkedThen, checkedOver}
 use Rattle.question.specs.declared.questions.Question.{Question}
 use Rattle.question.specs.Limits.{maxTerms}
@@ -19,11 +19,11 @@ use Rattle.outcome.specs.declared.writes.Written.{Written}
 unfoldable pub packedRows : Question → List ℕ
 packedRows q = map packRow (rowList q)
 
--- more than 12 terms: 8 at place 0; nothing else of the table is checked
+-- more than 12 terms: 5 at place 0, as for rows that are handed in; nothing else of the table is checked
 unfoldable pub termsChecked : Question → Check
-termsChecked q = cond (ltb maxTerms (termsOf q)) (Refused (refusal tooManyTerms 0)) Accepted
+termsChecked q = cond (ltb maxTerms (termsOf q)) (Refused (refusal tooManyNames 0)) Accepted
 
--- the rows of a table as it stands, where there is room for so many: 8, then 10, else how many rows are written
+-- the rows of a table as it stands, where there is room for so many: 5, then 10, else how many rows are written
 unfoldable pub rowsWritten : Question → ℕ → Written
 rowsWritten q room = checkedThen (termsChecked q) (fitted (packedRows q) room)
 

@@ -85,13 +85,13 @@ fn put_rows(q: Question, terms: usize, rows: &mut [u32])
     }
 }
 
-// The rows of a table as it stands, packed, from the start of the buffer: 8 for more than 12 terms, then 10. Of each name the bits of a place's width count.
+// The rows of a table as it stands, packed, from the start of the buffer: 5 for more than 12 terms, as of rows that are handed in, then 10. Of each name the bits of a place's width count.
 pub fn write_rows(q: Question, rows: &mut [u32]) -> Written
     ensures { λ r. ⌜ (r ≡ rowsWritten q (length (now (rows .entry)))) × (now (rows .exit) ≡ rowsWrittenOver q (now (rows .entry))) ⌝ }
 {
     let n = terms(q);
     if Question::MAX_TERMS < n {
-        return Written::Refused(Refusal::new(Refusal::TOO_MANY_TERMS, 0));
+        return Written::Refused(Refusal::new(Refusal::TOO_MANY_NAMES, 0));
     }
     let count = count_rows(q, n);
     if rows.len() < count {
