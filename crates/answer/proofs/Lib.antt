@@ -1,6 +1,5 @@
 -- Laws that belong to no one function, in the order in which they rest on each other.
 -- The answer as a value, its tests and its bodies:
-pub mod PaddedLaws
 pub mod BodyLaws
 pub mod SizeLaws
 pub mod CheckLaws

@@ -19,7 +19,7 @@ use Rattle.outcome.specs.declared.verdicts.Verdict.the-variants.{Possible, Impo
 use Rattle.answer.specs.declared.answers.Answer.{Answer}
 use Rattle.answer.specs.Answers.{saidBy, said, asAnswer, HasTwelve, IsArranged, MaySay}
 use Rattle.answer.specs.Checks.{mayFollow, isArrangement, allBelow, isGood}
-use Rattle.answer.proofs.PaddedLaws.{padded-length, take-padded}
+use Rattle.outcome.proofs.PaddedLaws.{padded-length, take-padded}
 use Rattle.answer.proofs.GoodLaws.{follows, classes-few}
 
 follow-tested : (used : ℕ) (l : List ℕ) → MayFollow used l → mayFollow used l ≡ true

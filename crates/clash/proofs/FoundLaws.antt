@@ -1,19 +1,18 @@
 -- What was found: its part is accepted, its indexes stand in front of the array, and its answer, written into a buffer of the longest length, at the front of that.
 use Prim.Native.Nat.{ℕ, _-_, _≤_}
-use mathlib.Core.Path.{_≡_, sym, ap, ap₂, _∙_}
+use mathlib.Core.Path.{_≡_, sym, ap, _∙_}
 use mathlib.Core.List.{List}
 use native.Mathlib.Omega.{arith}
 use lib.ListN.{length, take, replicate}
-use lib.Seq.{take-append-seam, take-at}
+use lib.Seq.{take-at}
 use Rattle.outcome.specs.declared.refusals.Refusal.{Refusal}
 use Rattle.outcome.specs.declared.checks.Check.the-variants.{Accepted}
 use Rattle.outcome.specs.declared.writes.Written.{Written}
-use Rattle.outcome.specs.declared.writes.Written.the-variants.{Count, Refused as NotWritten}
+use Rattle.outcome.specs.declared.writes.Written.the-variants.{Refused as NotWritten}
 use Rattle.outcome.specs.Checks.{acceptedThen}
-use Rattle.outcome.specs.Writes.{over, fitted, fittedOver}
+use Rattle.outcome.specs.Writes.{fitted, fittedOver}
 use Rattle.outcome.proofs.Never.{never}
 use Rattle.outcome.proofs.WriteLaws.{fits}
-use Rattle.outcome.proofs.OverLaws.{over-length}
 use Rattle.question.specs.declared.questions.Question.{Question}
 use Rattle.question.specs.Limits.{maxStatements}
 use Rattle.question.specs.Checks.{checked, IsAccepted}
@@ -32,14 +31,6 @@ use Rattle.clash.proofs.PartLaws.{part-checked, part-accepted, part-cou
 module _ (bytes old : List ℕ) (room : length bytes ≤ length old) where
   pub never-refused : {A : Type 0} {w : Written} {r : Refusal} → w ≡ fitted bytes (length old) → w ≡ NotWritten r → A
   never-refused e p = let c = fits bytes old room .0 in never cc
-
-  pub at-front : {w : Written} {n : ℕ} (new : List ℕ) → w ≡ fitted bytes (length old) → w ≡ Count n → new ≡ fittedOver bytes old → (n ≤ length new) × (take n new ≡ bytes)
-  at-front {w} {n} new e p b =
-      let all = fits bytes old room in
-      let counts : Count (length bytes) ≡ Count n = sym (e ∙ all .0) ∙ p in
-      let count : length bytes ≡ n = cc in
-      let is : new ≡ over bytes old = b ∙ all .1 in
-      (omega (arith, count, ap length is, over-length bytes old room), ap₂ take (sym count) is ∙ take-append-seam bytes _)
 
 module _ (q : Question) (ok : checked q ≡ Accepted) (found : ClashingPart) (is : found ≡ clashed q) where
   accepts : IsAccepted q

@@ -7,8 +7,9 @@ use native.Mathlib.Omega.{arith}
 use native.Mathlib.Nat.{zero-add}
 use native.Mathlib.Numerals.{add-one}
 use lib.ListN.{length, getD, drop, replicate, set, length-append, length-map, drop-of-length-le}
-use lib.Seq.{drop-cons, drop-drop, set-at}
+use lib.Seq.{drop-cons, drop-drop}
 use Rattle.outcome.specs.Padded.{padded}
+use Rattle.outcome.proofs.PaddedLaws.{padded-snoc}
 use Rattle.statement.specs.declared.statements.Statement.{Statement}
 use Rattle.question.specs.declared.questions.Question.{Question}
 use Rattle.question.specs.Limits.{maxStatements}
@@ -25,14 +26,6 @@ use Rattle.clash.specs.Starts.{MayStart}
 use Rattle.statement.proofs.AmongLaws.{among-drop}
 use Rattle.clash.proofs.MeaningLaws.{Accepts, stated, accepts-rest, more-impossible}
 use Rattle.clash.proofs.KeptLaws.{kept-end, kept-needed, kept-run}
-
--- one entry more in an array that holds a list
-pub padded-more : (n v : ℕ) (l : List ℕ) → length l < n → set (padded n l) (length l) v ≡ padded n (l ++ (v ∷ []))
-padded-more n v l h =
-    let size : length (l ++ (v ∷ [])) ≡ length l + 1 = length-append l (v ∷ []) in
-    ap (λ k. set (l ++ replicate k 0) (length l) v) (let z : n - length l ≡ suc (n - length (l ++ (v ∷ []))) = omega (arith, size) in z)
-    ∙ set-at l 0 (replicate (n - length (l ++ (v ∷ []))) 0) v (length l) refl
-    ∙ sym (append-assoc l (v ∷ []) (replicate (n - length (l ++ (v ∷ []))) 0))
 
 module _ (q : Question) where
   abbrev E : ℕ
@@ -164,7 +157,7 @@ module _ (q : Question) where
       walk-keeps = record {
         done = w .done ++ (i ∷ []);
         here = omega (arith, w .here, length-append (w .done) (i ∷ []));
-        stored = ap₂ (λ l k. set l k i) (w .stored) (w .here) ∙ padded-more maxStatements i (w .done) (omega (arith, w .here, w .few));
+        stored = ap₂ (λ l k. set l k i) (w .stored) (w .here) ∙ padded-snoc maxStatements (w .done) i (omega (arith, w .here, w .few));
         few = omega (arith, w .few);
         inside = omega arith;
         stands = w .stands ∙ ap (questionOf E S) (sym same);

@@ -2,4 +2,5 @@
 pub mod MaskLaws
 pub mod JudgedLaws
 pub mod Verdicts
+pub mod ShownLaws
 pub mod OneResultLaws

@@ -2,3 +2,4 @@
 pub mod Models
 pub mod Elements
 pub mod Judgements
+pub mod Shown

@@ -2,6 +2,7 @@
 pub mod Never
 pub mod CheckLaws
 pub mod OverLaws
+pub mod PaddedLaws
 pub mod WriteLaws
 pub mod OneLaw
 pub mod OneResultLaws

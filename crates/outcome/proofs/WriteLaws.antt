@@ -1,12 +1,14 @@
 -- Fits or 10, and what the answer of a writer tells: where it counts, all was written and the check had accepted.
 use Prim.Native.Nat.{ℕ, _≤_, _<_}
-use mathlib.Core.Path.{_≡_, refl, sym}
+use mathlib.Core.Path.{_≡_, refl, sym, ap, ap₂, _∙_}
 use mathlib.Core.Bool.{Bool, true, false, cond}
 use mathlib.Core.List.{List}
 use mathlib.Core.Logic.{_⊎_, inl, inr}
+use native.Mathlib.Omega.{arith}
 use borrow.Author.Tests.{lt-ltb, le-ltb, ltb-true, ltb-false}
 use lib.Dec.{ltb}
-use lib.ListN.{length}
+use lib.ListN.{length, take}
+use lib.Seq.{take-append-seam}
 use Rattle.outcome.specs.declared.refusals.Refusal.{Refusal}
 use Rattle.outcome.specs.declared.checks.Check.{Check}
 use Rattle.outcome.specs.declared.checks.Check.the-variants.{Accepted, Refused}
@@ -14,6 +16,7 @@ use Rattle.outcome.specs.declared.writes.Written.the-variants.{Count, Re
 use Rattle.outcome.specs.Refusals.{refusal, bufferTooShort}
 use Rattle.outcome.specs.Writes.{over, fitted, fittedOver, checkedThen, checkedOver}
 use Rattle.outcome.proofs.Never.{never}
+use Rattle.outcome.proofs.OverLaws.{over-length}
 
 module _ (written old : List ℕ) where
   pub fits : length written ≤ length old → (fitted written (length old) ≡ Count (length written)) × (fittedOver written old ≡ over written old)
@@ -50,3 +53,10 @@ refused-keeps check written old r e = go check (ltb (length old) (length written
     go Accepted true e = refl
     go Accepted false e = never cc
     go (Refused s) b e = refl
+
+-- what was written stands at the front of the buffer
+pub at-front : (written old new : List ℕ) (n : ℕ) → fitted written (length old) ≡ Count n → new ≡ fittedOver written old → (n ≤ length new) × (take n new ≡ written)
+at-front written old new n e b =
+    let c = counted Accepted written (length old) n e in
+    let is : new ≡ over written old = b ∙ fits written old (c .2) .1 in
+    (omega (arith, c .1, c .2, ap length is, over-length written old (c .2)), ap₂ take (c .1) is ∙ take-append-seam written _)

@@ -1,4 +1,4 @@
--- The refusal numbers of document 01, and a refusal as its number and place.
+-- The refusal numbers of documents 01 and 02, and a refusal as its number and place.
 use Prim.Native.Nat.{ℕ}
 use Rattle.outcome.specs.declared.refusals.Refusal.{Refusal}
 
@@ -49,6 +49,14 @@ badModel = 11
 -- bad row
 abbrev pub badRow : ℕ
 badRow = 12
+
+-- a solver's lines not of document 02's form
+abbrev pub badLines : ℕ
+badLines = 13
+
+-- a solver's model that the judge fails
+abbrev pub modelFails : ℕ
+modelFails = 14
 
 -- the refusal with this number, at this place
 abbrev pub refusal : ℕ → ℕ → Refusal

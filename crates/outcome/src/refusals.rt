@@ -1,4 +1,4 @@
-// A refusal: its number in document 01, and the place that the number speaks of.
+// A refusal: its number in documents 01 and 02, and the place that the number speaks of.
 ghost use mathlib.Core.Path.{_≡_};
 ghost use Rattle.outcome.specs.Refusals.{refusal};
 
@@ -31,6 +31,10 @@ impl Refusal {
     pub const BAD_MODEL: u8 = 11;
 
     pub const BAD_ROW: u8 = 12;
+
+    pub const BAD_LINES: u8 = 13;
+
+    pub const MODEL_FAILS: u8 = 14;
 
     pub fn new(number: u8, place: usize) -> Refusal
         ensures { λ r. ⌜ r ≡ refusal number place ⌝ }

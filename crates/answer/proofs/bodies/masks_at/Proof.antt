@@ -10,7 +10,7 @@ use Rattle.question.specs.Limits.{maxTerms}
 use Rattle.outcome.specs.Padded.{padded}
 use Rattle.number.specs.Numbers.{numberIn}
 use Rattle.answer.specs.Bodies.{maskBytes, masksIn}
-use Rattle.answer.proofs.PaddedLaws.{padded-more, padded-none, padded-all}
+use Rattle.outcome.proofs.PaddedLaws.{padded-more, padded-none, padded-all}
 use Rattle.answer.proofs.BodyLaws.{in-length, in-at}
 use Rattle.answer.proofs.bodies.masks_at.Statement.{statement}
 use Rattle.answer.proofs.bodies.masks_at.Tie as tie
@@ -46,7 +46,7 @@ masks-at-spec =
     (tie.spec
     Inv-loop
     μ-loop
-    (λ c. (omega arith, refl, padded-none))
+    (λ c. (omega arith, refl, padded-none maxTerms))
     (λ c. search needs)
     (λ c. search needs)
     (λ c κs. search needs)

@@ -8,7 +8,7 @@ use lib.ListN.{length, take, drop, length-set, length-take, length-drop}
 use lib.Seq.{length-take-le, getD-take, getD-drop}
 use Rattle.question.specs.Limits.{maxTerms}
 use Rattle.outcome.specs.Padded.{padded}
-use Rattle.answer.proofs.PaddedLaws.{padded-more, padded-none, padded-all}
+use Rattle.outcome.proofs.PaddedLaws.{padded-more, padded-none, padded-all}
 use Rattle.answer.proofs.bodies.numbers_at.Statement.{statement}
 use Rattle.answer.proofs.bodies.numbers_at.Tie as tie
 
@@ -39,7 +39,7 @@ numbers-at-spec =
     (tie.spec
     Inv-loop
     μ-loop
-    (λ c. (omega arith, refl, padded-none))
+    (λ c. (omega arith, refl, padded-none maxTerms))
     (λ c. search needs)
     (λ c κs. search needs)
     (λ c. search needs)

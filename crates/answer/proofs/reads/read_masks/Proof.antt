@@ -16,7 +16,7 @@ use Rattle.field.proofs.FrameLaws.{within, due-length}
 use Rattle.answer.specs.Checks.{allBelow}
 use Rattle.answer.specs.Bodies.{maskBytes, masksIn}
 use Rattle.answer.specs.Reads.{dueFrame, endRead}
-use Rattle.answer.proofs.PaddedLaws.{take-padded}
+use Rattle.outcome.proofs.PaddedLaws.{take-padded}
 use Rattle.answer.proofs.BodyLaws.{in-length}
 use Rattle.answer.proofs.SizeLaws.{masks-sized}
 use Rattle.answer.proofs.ReadLaws.{masks-refused, masks-bad, masks-good}

@@ -14,7 +14,7 @@ use Rattle.field.specs.Heads.{headLength}
 use Rattle.field.proofs.FrameLaws.{within, due-length}
 use Rattle.answer.specs.Checks.{classCount}
 use Rattle.answer.specs.Reads.{dueFrame, masksRead}
-use Rattle.answer.proofs.PaddedLaws.{take-padded}
+use Rattle.outcome.proofs.PaddedLaws.{take-padded}
 use Rattle.answer.proofs.GoodLaws.{classes-few, counted, against}
 use Rattle.answer.proofs.SizeLaws.{numbers-sized}
 use Rattle.answer.proofs.ReadLaws.{numbers-refused, numbers-against, numbers-good}

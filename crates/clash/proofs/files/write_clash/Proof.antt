@@ -7,11 +7,12 @@ use borrow.Author.Needs.{needs}
 use lib.ListN.{length, take, replicate}
 use lib.Seq.{length-take-le}
 use Rattle.outcome.specs.Writes.{fitted, fittedOver}
+use Rattle.outcome.proofs.WriteLaws.{at-front}
 use Rattle.question_file.specs.Bytes.{questionBytes}
 use Rattle.theory.specs.Answers.{answer}
 use Rattle.answer.specs.Bytes.{fileOf}
 use Rattle.clash.specs.Files.{three, threeWritten, threeOver}
-use Rattle.clash.proofs.FoundLaws.{never-refused, at-front, part-is, part-accepts, answer-fits, answer-writes, few-indexes, indexes-are}
+use Rattle.clash.proofs.FoundLaws.{never-refused, part-is, part-accepts, answer-fits, answer-writes, few-indexes, indexes-are}
 use Rattle.clash.proofs.ThreeLaws.{three-same}
 use Rattle.clash.proofs.files.write_clash.Statement.{statement}
 use Rattle.clash.proofs.files.write_clash.Tie as tie
@@ -31,7 +32,7 @@ front : (c : tie.After-known-told2) →
 front c =
     let s = c .before .before .before .before in
     let e = s .before .before .before .before .before .before in
-    at-front (fileOf (answer (e .args .q))) (replicate 49 0) (answer-fits (e .args .q) (e .pre .0) (e .args .found) (e .pre .1)) (s .write-answer .last .1 .1 .0) (answered s .0) (c .before .n .given .1) (answered s .1)
+    at-front (fileOf (answer (e .args .q))) (replicate 49 0) (s .write-answer .last .1 .1 .0) _ (sym (answered s .0) ∙ c .before .n .given .1) (answered s .1)
 
 -- and the indexes of the part in front of the array
 inside : (c : tie.After-known-told2) → let e = c .before .before .before .before .before .before .before .before .before .before in e .args .found .part .count ≤ length (e .args .found .indexes)
