@@ -1,0 +1,3 @@
+-- The definitions that the contracts cite, in the order of the data's way.
+pub mod Walks
+pub mod Writes
