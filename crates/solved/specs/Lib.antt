@@ -1,0 +1,3 @@
+-- The definitions that the contracts cite: what the calls answer, and the model as arrays.
+pub mod Solved
+pub mod Said
