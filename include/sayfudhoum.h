@@ -5,17 +5,18 @@
  * them, of eleven kinds. Its answer is "impossible" (no assignment over any finite domain meets the
  * statements) or "possible" with the first model. Both are files of bytes; docs/FORMAT.md has the
  * format, docs/C.md a guide, and examples/ two programs. Of an impossible question, the clashing part
- * can be had: statements that can't all hold, of which none can be left out.
+ * can be had: statements that can't all hold, of which none can be left out. For an outside solver, a
+ * question can be had as clauses in DIMACS form, and the lines that the solver prints can be read back.
  *
- * For all three functions:
+ * For all five functions:
  * - They are total: any bytes of any length may be handed in. What is wrong is refused by a number.
  * - They allocate nothing, keep no state and write nothing but what is said below. Several threads
  *   may call them at the same time, with buffers of their own.
- * - A call needs at most 32 KiB of stack, whatever the question (measured: 31,968 bytes).
- * - A slice is a pointer and the length behind it: the question, which is read, or a buffer, which is
- *   lent to be written. A pointer must not be null, and the bytes of its slice must be there:
- *   question_length bytes that can be read, and in each buffer as many that can be written as its
- *   length says. A length may be 0; the pointer must not be null even then.
+ * - A call needs at most 32 KiB of stack, whatever the question (measured: 32,240 bytes).
+ * - A slice is a pointer and the length behind it: the question and a solver's lines, which are read,
+ *   or a buffer, which is lent to be written. A pointer must not be null, and the bytes of its slice must
+ *   be there: in the question and the lines as many that can be read, and in each buffer as many that
+ *   can be written, as its length says. A length may be 0; the pointer must not be null even then.
  * - No two slices may overlap, and nobody else may write to any of them during the call.
  *
  * The library is for x86-64 Linux, and links with no other library. C99 or C++11.
@@ -37,11 +38,13 @@ extern "C" {
 #define SAYFUDHOUM_MAX_TERMS 12      /* element names and statements x != y together, T */
 
 /*
- * The longest question file, and the longest answer: a buffer of so many bytes is never too short, for
- * a clashing part and for an answer. For indexes it is a buffer of SAYFUDHOUM_MAX_STATEMENTS bytes.
+ * The longest question file, the longest answer, and a length that no text of clauses passes: a buffer of
+ * so many bytes is never too short, for a clashing part, for an answer and for clauses. For indexes it is
+ * a buffer of SAYFUDHOUM_MAX_STATEMENTS bytes.
  */
 #define SAYFUDHOUM_MAX_QUESTION_LENGTH 392
 #define SAYFUDHOUM_MAX_ANSWER_LENGTH 49
+#define SAYFUDHOUM_MAX_CLAUSES_LENGTH 86307
 
 /*
  * Tags. A field is its tag, the length of its body in two bytes with the high byte first, and the
@@ -70,7 +73,9 @@ extern "C" {
  * one field they come in the order 1 (the field's head of three bytes), 2, 3, 4, 1 (its body), then
  * 5 for the names, 7, 6, 8 for a statement; behind the end 9. The place is that of the field's first
  * byte, counted from 0 (for 1 where no byte is left, the length of the data), for 9 that of the first
- * extra byte, for 10 it is 0.
+ * extra byte, for 10 it is 0. A solver's lines are read after the question: then come 13, 14 and, always
+ * last, 10. For 13 the place is where in the lines the first line begins that can't stand there, or their
+ * length if more lines were due; for 14 it is 0.
  */
 #define SAYFUDHOUM_DATA_ENDS 1           /* the data ends within a field or before the end field */
 #define SAYFUDHOUM_TAG_UNKNOWN 2         /* a question file doesn't know the tag */
@@ -82,9 +87,12 @@ extern "C" {
 #define SAYFUDHOUM_TOO_MANY_TERMS 8      /* this statement x != y would make T more than 12 */
 #define SAYFUDHOUM_BYTES_AFTER_END 9     /* bytes follow the end field */
 #define SAYFUDHOUM_BUFFER_TOO_SHORT 10   /* a buffer is shorter than what this very call has to write */
-/* The last two are the project's, but no function below ever gives them. */
+/* The next two are the project's, but no function below ever gives them. */
 #define SAYFUDHOUM_BAD_MODEL 11 /* a bad model or answer was handed in */
 #define SAYFUDHOUM_BAD_ROW 12   /* a bad row was handed in */
+/* The last two come from sayfudhoum_solved alone. */
+#define SAYFUDHOUM_BAD_LINES 13   /* the solver's lines are not of the form that is read */
+#define SAYFUDHOUM_MODEL_FAILS 14 /* the model that the lines say fails a statement of the question */
 
 /*
  * Decides the question in question[0 .. question_length - 1] and writes its answer to the start of
@@ -148,7 +156,67 @@ uint64_t sayfudhoum_clash(const uint8_t *question, size_t question_length,
                           uint8_t *indexes, size_t indexes_length,
                           uint8_t *answer, size_t answer_length);
 
-/* The refusal number in a result, or 0 if the question was decided. */
+/*
+ * Writes the clauses of the question in question[0 .. question_length - 1] to the start of clauses, as
+ * DIMACS text for an outside solver. They can be satisfied exactly if the question is possible; nothing
+ * is decided here.
+ *   The T terms are the element names and then the witnesses of the statements x != y. The variables,
+ *   from 1: for each pair of terms, that they are the same (those of term 0 first, the other term upward,
+ *   then those of term 1, and so on); for each term and set, that it is in it (term 0 first, sets upward);
+ *   and one spare, which is the last. The first line is "p cnf", variables, clauses; then each clause is
+ *   a line: its literals and 0, with one space between. Every line ends with 0A. docs/FORMAT.md has the
+ *   clauses and an example.
+ *
+ * Result: one number; take it apart by sayfudhoum_refusal and sayfudhoum_rest.
+ *   lowest byte 0: written. The rest is the count of bytes written, 10 at least ("p cnf 1 0") and
+ *     SAYFUDHOUM_MAX_CLAUSES_LENGTH at most.
+ *   lowest byte 1 to 9: the question is refused by this number, at the place that is the rest; the
+ *     same as sayfudhoum_answer would give.
+ *   lowest byte 10: clauses_length is less than the length of this very text. The rest is 0. It comes
+ *     last.
+ *
+ * Written: if not refused, the text, with no zero byte behind it: the bytes of the buffer past the text
+ * keep their values. If refused, nothing: the whole buffer keeps its values. The question is only read,
+ * and nothing outside the two slices is touched.
+ */
+uint64_t sayfudhoum_clauses(const uint8_t *question, size_t question_length,
+                            uint8_t *clauses, size_t clauses_length);
+
+/*
+ * Reads back what a solver printed about the clauses of the question in question[0 .. question_length - 1]:
+ * lines[0 .. lines_length - 1]. If they say a model, it is judged, statement by statement, and written as
+ * an answer to the start of answer. Nothing is decided here, and the solver is not believed.
+ *   Lines that start with "c" are passed over, wherever they stand. The others are "s SATISFIABLE", then
+ *   "v" lines of at least one number each, which together hold every variable once, in any order, with a
+ *   minus if it is false, and last a 0; or "s UNSATISFIABLE" alone. Before each number stands one space,
+ *   and no zero or plus in front of it. Every line ends with 0A, the last one and comments too.
+ *
+ * Result: one number; take it apart by sayfudhoum_refusal and sayfudhoum_rest.
+ *   lowest byte 0, rest above 0: the lines say a model, and it meets every statement, so the question is
+ *     possible. The rest is the count of bytes written, 13 + T + 2n, where n is the number of classes.
+ *   lowest byte 0, rest 0: the solver says that the clauses can't be satisfied. That is its word only, and
+ *     never this library's "impossible": nothing was checked, and nothing is written. Ask
+ *     sayfudhoum_verdict.
+ *   lowest byte 1 to 9: the question is refused by this number, at the place that is the rest; the
+ *     same as sayfudhoum_answer would give. The lines were not looked at.
+ *   lowest byte 13: the lines are not of this form. The rest is the place in them where the first line
+ *     begins that can't stand there, or lines_length if each can and more were due. It is told modulo
+ *     2^56; lines that are longer fit no machine.
+ *   lowest byte 14: the lines are of this form, but the model fails a statement: it doesn't satisfy the
+ *     clauses, or belongs to another question. The rest is 0.
+ *   lowest byte 10: the model passed, and answer_length is less than the length of this very answer. The
+ *     rest is 0. It comes last.
+ *
+ * Written: if the rest is above 0 and nothing is refused, the answer: a possible one with the solver's
+ * model, which need not be the first, so it can differ from what sayfudhoum_answer writes. The bytes of
+ * the buffer past it keep their values. Else nothing: the whole buffer keeps its values. The question and
+ * the lines are only read, and nothing outside the three slices is touched.
+ */
+uint64_t sayfudhoum_solved(const uint8_t *question, size_t question_length,
+                           const uint8_t *lines, size_t lines_length,
+                           uint8_t *answer, size_t answer_length);
+
+/* The refusal number in a result, or 0 if nothing was refused. */
 static inline unsigned sayfudhoum_refusal(uint64_t result) { return result & 0xFF; }
 
 /* The rest of a result: the place if refused, else the count of bytes written, the verdict, or three counts. */

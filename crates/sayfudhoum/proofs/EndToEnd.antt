@@ -42,10 +42,10 @@ use Rattle.outcome.specs.Writes.{fittedOver}
 use Rattle.decision.specs.Decisions.{undecided}
 use Rattle.decision.specs.Decisions.{decidedAs}
 use Rattle.answer.specs.Answers.{asAnswer}
-use Rattle.sayfudhoum.specs.Models.{modelShown}
+use Rattle.judge.specs.Shown.{modelShown}
 use Rattle.sayfudhoum.specs.Files.{answerIn, fileDecided, answered, answeredOver}
 use Rattle.sayfudhoum.specs.Numbers.{writtenNumber, decisionNumber, answerNumber, verdictNumber}
-use Rattle.sayfudhoum.proofs.ShownLaws.{judge-yes}
+use Rattle.judge.proofs.ShownLaws.{judge-yes}
 use Rattle.sayfudhoum.proofs.exports.sayfudhoum_answer.Reads as answer-call
 use Rattle.sayfudhoum.proofs.exports.sayfudhoum_verdict.Reads as verdict-call
 

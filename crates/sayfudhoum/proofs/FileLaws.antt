@@ -1,12 +1,11 @@
 -- What is decided and written of a question file, by whether the file is accepted; and that its numbers leave room for the lowest byte.
 use Prim.Native.Nat.{ℕ, _+_, _/_, _%_, _≤_}
-use mathlib.Core.Path.{_≡_, refl, sym, ap, ap₂, _∙_}
+use mathlib.Core.Path.{_≡_, refl, sym, ap, ap₂, subst, _∙_}
 use mathlib.Core.Bool.{Bool, true, false, cond}
 use mathlib.Core.List.{List, [], _∷_, _++_}
 use native.Mathlib.Omega.{arith}
-use borrow.Author.Tests.{ltb-false}
 use lib.Dec.{ltb}
-use lib.ListN.{length}
+use lib.ListN.{length, replicate, length-replicate}
 use Rattle.outcome.specs.declared.refusals.Refusal.{Refusal}
 use Rattle.field.specs.declared.tags.File.the-variants.{Report as ReportFile}
 use Rattle.field.specs.Heads.{fieldBytes, endBytes}
@@ -23,9 +22,8 @@ use Rattle.question_file.specs.declared.reads.ReadQuestion.{ReadQuestion}
 use Rattle.question_file.specs.Reads.{readQuestion}
 use Rattle.question_file.proofs.RefusalLaws.{refusal-told}
 use Rattle.question_file.proofs.RoundTrips.{read-checked, checked-read}
-use Rattle.outcome.specs.Writes.{over, fitted, fittedOver, checkedThen, checkedOver}
-use Rattle.outcome.proofs.OverLaws.{over-length}
-use Rattle.outcome.proofs.Never.{never}
+use Rattle.outcome.specs.Writes.{fitted, fittedOver, checkedThen, checkedOver}
+use Rattle.outcome.proofs.WriteLaws.{at-front}
 use Rattle.theory.specs.Answers.{answer}
 use Rattle.outcome.specs.declared.writes.Written.the-variants.{Count, Refused as NotWritten}
 use Rattle.answer.specs.Bytes.{fileOf, longestAnswer}
@@ -33,11 +31,19 @@ use Rattle.outcome.specs.Checks.{acceptedThen}
 use Rattle.answer.specs.Answers.{asAnswer}
 use Rattle.decision.specs.Decisions.{undecided, decidedAs, decided}
 use Rattle.sayfudhoum.specs.Files.{answerIn, fileDecided, answered, answeredOver, reportBytes, response, responded, respondedOver}
-use Rattle.sayfudhoum.specs.Numbers.{IsSmall, IsShort, IsFew}
+use Rattle.sayfudhoum.specs.Numbers.{IsSmall, IsShort, IsFew, IsBrief}
 use Rattle.question.specs.Checks.{IsAccepted}
 use Rattle.question.proofs.AcceptedLaws.{accepted as isAccepted}
 use Rattle.question_file.specs.Bytes.{questionBytes}
 use Rattle.question_file.proofs.WriterLaws.{longest}
+use Rattle.clauses.specs.Texts.{longestClauses, clauseText}
+use Rattle.dimacs.specs.Writes.{fileClauses}
+use Rattle.clauses.proofs.CountLaws.{text-short}
+use Rattle.solved.specs.declared.answers.Solved.{Solved}
+use Rattle.solved.specs.declared.answers.Solved.the-variants.{Answered, SaidUnsatisfiable, Refused as SolvedRefused}
+use Rattle.solved.specs.Solved.{fileSolved}
+use Rattle.solved.proofs.SolvingLaws.{file-as-question, file-refused as solved-refused}
+use Rattle.solved.proofs.Solvers.{answered-short as solved-short}
 use Rattle.clash.specs.declared.files.ClashWritten.the-variants.{Counts, Refused as ClashRefused}
 use Rattle.clash.specs.Clashes.{clashing, partOf}
 use Rattle.clash.specs.Files.{Three, anyShort, threeWritten, clashBytes, clashWritten}
@@ -135,18 +141,42 @@ module _ (bytes : List ℕ) where
       go Accepted p = three-few (anyShort (clashBytes q) old) (isAccepted q .0 (read-checked bytes p)) (file-short q (read-checked bytes p))
       go (Refused r) p = refusal-told bytes r p .1
 
--- what is written lies in the buffer
-within : (bytes old new : List ℕ) (n : ℕ) → fitted bytes (length old) ≡ Count n → new ≡ fittedOver bytes old → n ≤ length new
-within bytes old new n e b = rw b (go (ltb (length old) (length bytes)) refl e)
-  where
-    go : (short : Bool) → ltb (length old) (length bytes) ≡ short → cond short (NotWritten (refusal bufferTooShort 0)) (Count (length bytes)) ≡ Count n → n ≤ length (cond short old (over bytes old))
-    go true p e = never cc
-    go false p e = let same : length bytes ≡ n = cc in omega (arith, same, over-length bytes old (ltb-false (length old) (length bytes) p), ltb-false (length old) (length bytes) p)
+  -- the clauses of a file
+  pub clauses-short : (room : ℕ) → IsShort (fileClauses bytes room)
+  unfolding fileClauses
+  clauses-short room = go (readQuestion bytes .outcome) refl
+    where
+      q : Question
+      q = readQuestion bytes .question
+
+      fits : (b : Bool) → length (clauseText q) ≤ longestClauses → IsShort (cond b (NotWritten (refusal bufferTooShort 0)) (Count (length (clauseText q))))
+      fits true h = omega arith
+      fits false h = h
+
+      go : (o : Check) → readQuestion bytes .outcome ≡ o → IsShort (checkedThen o (fitted (clauseText q) room))
+      go Accepted p = fits (ltb room (length (clauseText q))) (text-short q (isAccepted q .0 (read-checked bytes p)))
+      go (Refused r) p = refusal-told bytes r p .1
+
+  -- a solver's lines beside it
+  pub solved-brief : (lines : List ℕ) (room : ℕ) → IsBrief (fileSolved bytes lines room)
+  solved-brief lines room = subst (λ n. IsBrief (fileSolved bytes lines n)) (length-replicate room 0) (go (readQuestion bytes .outcome) refl)
+    where
+      old : List ℕ
+      old = replicate room 0
+
+      brief : (w : Solved) → ((n : ℕ) → w ≡ Answered n → n ≤ longestAnswer) → IsBrief w
+      brief (Answered n) h = omega (arith, h n refl)
+      brief SaidUnsatisfiable h = tt
+      brief (SolvedRefused r) h = tt
+
+      go : (o : Check) → readQuestion bytes .outcome ≡ o → IsBrief (fileSolved bytes lines (length old))
+      go Accepted p = brief (fileSolved bytes lines (length old)) (λ n e. solved-short (readQuestion bytes .question) lines old n (sym (file-as-question bytes lines old p .0) ∙ e))
+      go (Refused r) p = rw (solved-refused bytes lines old {read = readQuestion bytes} refl p .0) tt
 
 -- the program's output lies in its buffer
 pub response-within : (bytes old new : List ℕ) (n : ℕ) → responded bytes (length old) ≡ Count n → new ≡ respondedOver bytes old → n ≤ length new
 unfolding responded respondedOver
-response-within bytes old new n e b = within (response bytes) old new n e b
+response-within bytes old new n e b = at-front (response bytes) old new n e b .0
 
 -- a report has a number and a place in two bytes, and nine bytes in all
 pub report-body : (r : Refusal) → reportBytes r ≡ fieldBytes 0x44 (r .number ∷ r .place / 256 % 256 ∷ r .place % 256 ∷ []) ++ endBytes

@@ -13,10 +13,12 @@ use Rattle.outcome.specs.declared.checks.Check.the-variants.{Refused}
 use Rattle.clash.specs.declared.files.ClashWritten.{ClashWritten}
 use Rattle.clash.specs.declared.files.ClashWritten.the-variants.{Counts, Refused as ClashRefused}
 use Rattle.question.specs.Limits.{maxStatements}
-use Rattle.sayfudhoum.specs.Numbers.{maxPlace, IsSmall, IsShort, IsFew}
+use Rattle.solved.specs.declared.answers.Solved.{Solved}
+use Rattle.solved.specs.declared.answers.Solved.the-variants.{Answered}
+use Rattle.sayfudhoum.specs.Numbers.{maxPlace, maxCount, IsSmall, IsShort, IsFew, IsBrief}
 
 module _ (w : Written) where
-  pub written-count : (n : ℕ) → w ≡ Count n → IsShort w → n ≤ maxPlace
+  pub written-count : (n : ℕ) → w ≡ Count n → IsShort w → n ≤ maxCount
   written-count n e h = subst IsShort e h
 
   pub written-place : (r : Refusal) → w ≡ NotWritten r → IsShort w → r .place ≤ maxPlace
@@ -32,6 +34,9 @@ module _ (w : ClashWritten) where
 
   pub clash-place : (r : Refusal) → w ≡ ClashRefused r → IsFew w → r .place ≤ maxPlace
   clash-place r e h = subst IsFew e h
+
+pub solved-count : (w : Solved) (n : ℕ) → w ≡ Answered n → IsBrief w → n ≤ maxPlace
+solved-count w n e h = subst IsBrief e h
 
 -- a verdict is one bit
 pub verdict-small : (v : Verdict) → verdictByte v ≤ 1

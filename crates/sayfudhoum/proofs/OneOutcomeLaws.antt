@@ -9,6 +9,8 @@ use Rattle.sayfudhoum.proofs.files.respond.Reads as respond
 use Rattle.sayfudhoum.proofs.exports.sayfudhoum_answer.Reads as sayfudhoum-answer
 use Rattle.sayfudhoum.proofs.exports.sayfudhoum_verdict.Reads as sayfudhoum-verdict
 use Rattle.sayfudhoum.proofs.exports.sayfudhoum_clash.Reads as sayfudhoum-clash
+use Rattle.sayfudhoum.proofs.exports.sayfudhoum_clauses.Reads as sayfudhoum-clauses
+use Rattle.sayfudhoum.proofs.exports.sayfudhoum_solved.Reads as sayfudhoum-solved
 use Rattle.clash.specs.Files.{three}
 
 decide-file-one : OneResult decide-file.Learnt
@@ -28,3 +30,9 @@ sayfudhoum-verdict-one κs given x y s t = both
 
 sayfudhoum-clash-one : OneOutcome sayfudhoum-clash.Learnt (λ κs s. three (now (s .1 .0)) (now (s .1 .1 .0)) (now (s .1 .1 .1 .0)))
 sayfudhoum-clash-one κs given x y s t p q = (both (p .0) (q .0), both (p .1) (q .1))
+
+sayfudhoum-clauses-one : OneOutcome sayfudhoum-clauses.Learnt (λ κs s. now (s .1 .0))
+sayfudhoum-clauses-one κs given x y s t p q = (both (p .0) (q .0), both (p .1) (q .1))
+
+sayfudhoum-solved-one : OneOutcome sayfudhoum-solved.Learnt (λ κs s. now (s .1 .1 .0))
+sayfudhoum-solved-one κs given x y s t p q = (both (p .0) (q .0), both (p .1) (q .1))

@@ -1,4 +1,3 @@
 -- The definitions that the contracts cite, in the order of the data's way.
-pub mod Models
 pub mod Files
 pub mod Numbers

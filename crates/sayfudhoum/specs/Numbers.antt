@@ -1,5 +1,5 @@
 -- The one number that a call for C gives back: its lowest byte is the refusal number, or 0; the rest is the place, the count of bytes, the three counts of a clash, or the verdict.
-use Prim.Native.Nat.{ℕ, _+_, _*_, _^_, _≤_}
+use Prim.Native.Nat.{ℕ, _+_, _*_, _%_, _^_, _≤_}
 use mathlib.Core.List.{List}
 use Rattle.outcome.specs.declared.refusals.Refusal.{Refusal}
 use Rattle.outcome.specs.declared.writes.Written.{Written}
@@ -12,6 +12,11 @@ use Rattle.decision.specs.declared.decisions.Decision.{Decision}
 use Rattle.clash.specs.declared.files.ClashWritten.{ClashWritten}
 use Rattle.clash.specs.declared.files.ClashWritten.the-variants.{Counts, Refused as ClashRefused}
 use Rattle.clash.specs.Files.{Three, clashWritten}
+use Rattle.clauses.specs.Texts.{longestClauses}
+use Rattle.dimacs.specs.Writes.{fileClauses}
+use Rattle.solved.specs.declared.answers.Solved.{Solved}
+use Rattle.solved.specs.declared.answers.Solved.the-variants.{Answered, SaidUnsatisfiable, Refused as SolvedRefused}
+use Rattle.solved.specs.Solved.{fileSolved}
 use Rattle.sayfudhoum.specs.Files.{fileDecided, answered}
 
 -- a refusal: its place, and its number in the lowest byte
@@ -39,6 +44,16 @@ abbrev pub clashedNumber : ClashWritten → ℕ
 clashedNumber (Counts part indexes answer) = countsNumber part indexes answer
 clashedNumber (ClashRefused r) = refusalNumber r
 
+-- a refusal whose place may lie anywhere in a solver's lines: the place in the 56 bits of the rest
+abbrev pub placedNumber : Refusal → ℕ
+placedNumber r = r .place % 2 ^ 56 * 256 + r .number
+
+-- the bytes of the answer, 0 for the solver's word, or the refusal
+abbrev pub asNumber : Solved → ℕ
+asNumber (Answered n) = n * 256
+asNumber SaidUnsatisfiable = 0
+asNumber (SolvedRefused r) = placedNumber r
+
 -- what `sayfudhoum_answer` gives back, where there is room for so many bytes
 unfoldable pub answerNumber : List ℕ → ℕ → ℕ
 answerNumber bytes room = writtenNumber (answered bytes room)
@@ -51,18 +66,34 @@ verdictNumber bytes = decisionNumber (fileDecided bytes)
 unfoldable pub clashNumber : List ℕ → Three → ℕ
 clashNumber bytes old = clashedNumber (clashWritten bytes old)
 
--- places and counts that leave room for the lowest byte
+-- what `sayfudhoum_clauses` gives back, where there is room for so many bytes
+unfoldable pub clausesNumber : List ℕ → ℕ → ℕ
+clausesNumber bytes room = writtenNumber (fileClauses bytes room)
+
+-- what `sayfudhoum_solved` gives back, beside a solver's lines
+unfoldable pub solvedNumber : List ℕ → List ℕ → ℕ → ℕ
+solvedNumber bytes lines room = asNumber (fileSolved bytes lines room)
+
+-- places and counts that leave room for the lowest byte: no refusal of a file lies further on, and no call writes more bytes
 abbrev pub maxPlace : ℕ
 maxPlace = 392
+
+abbrev pub maxCount : ℕ
+maxCount = longestClauses
 
 abbrev pub IsSmall : Check → Type 0
 IsSmall Accepted = Unit {0}
 IsSmall (Refused r) = r .place ≤ maxPlace
 
 abbrev pub IsShort : Written → Type 0
-IsShort (Count n) = n ≤ maxPlace
+IsShort (Count n) = n ≤ maxCount
 IsShort (NotWritten r) = r .place ≤ maxPlace
 
 abbrev pub IsFew : ClashWritten → Type 0
 IsFew (Counts part indexes answer) = (part ≤ maxPlace) × (indexes ≤ maxStatements) × (answer ≤ maxPlace)
 IsFew (ClashRefused r) = r .place ≤ maxPlace
+
+abbrev pub IsBrief : Solved → Type 0
+IsBrief (Answered n) = n ≤ maxPlace
+IsBrief SaidUnsatisfiable = Unit {0}
+IsBrief (SolvedRefused r) = Unit {0}

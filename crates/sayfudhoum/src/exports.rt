@@ -3,13 +3,18 @@ use crate::files::answer_file;
 use crate::files::decide_file;
 use crate::numbers::clash_number;
 use crate::numbers::outcome_number;
+use crate::numbers::solved_number;
 use crate::numbers::written_number;
 use clash::clash_file;
+use dimacs::clauses_file;
+use solved::solve_file;
 ghost use mathlib.Core.Path.{_≡_};
 ghost use lib.ListN.{length};
 ghost use Rattle.clash.specs.Files.{three, clashOver};
+ghost use Rattle.dimacs.specs.Writes.{fileClausesOver};
+ghost use Rattle.solved.specs.Solved.{fileSolvedOver};
 ghost use Rattle.sayfudhoum.specs.Files.{answeredOver};
-ghost use Rattle.sayfudhoum.specs.Numbers.{answerNumber, verdictNumber, clashNumber};
+ghost use Rattle.sayfudhoum.specs.Numbers.{answerNumber, verdictNumber, clashNumber, clausesNumber, solvedNumber};
 
 // Question bytes to answer bytes: the count of the bytes written, or the refusal.
 #[no_mangle]
@@ -45,4 +50,22 @@ pub extern "C" fn sayfudhoum_clash(
 {
     let written = clash_file(question, part, indexes, answer);
     clash_number(written)
+}
+
+// Question bytes to the clauses of its reduced table, as DIMACS text: the count of the bytes written, or the refusal.
+#[no_mangle]
+pub extern "C" fn sayfudhoum_clauses(question: &[u8], clauses: &mut [u8]) -> u64
+    ensures { λ r. ⌜ (r ≡ clausesNumber (now (question .entry)) (length (now (clauses .entry)))) × (now (clauses .exit) ≡ fileClausesOver (now (question .entry)) (now (clauses .entry))) ⌝ }
+{
+    let written = clauses_file(question, clauses);
+    written_number(written)
+}
+
+// Question bytes and a solver's lines to the answer that they say: the count of the bytes written, 0 for the solver's word that there is none, or the refusal.
+#[no_mangle]
+pub extern "C" fn sayfudhoum_solved(question: &[u8], lines: &[u8], answer: &mut [u8]) -> u64
+    ensures { λ r. ⌜ (r ≡ solvedNumber (now (question .entry)) (now (lines .entry)) (length (now (answer .entry)))) × (now (answer .exit) ≡ fileSolvedOver (now (question .entry)) (now (lines .entry)) (now (answer .entry))) ⌝ }
+{
+    let solved = solve_file(question, lines, answer);
+    solved_number(solved)
 }

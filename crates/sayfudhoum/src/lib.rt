@@ -5,6 +5,8 @@ mod numbers;
 
 pub use exports::sayfudhoum_answer;
 pub use exports::sayfudhoum_clash;
+pub use exports::sayfudhoum_clauses;
+pub use exports::sayfudhoum_solved;
 pub use exports::sayfudhoum_verdict;
 pub use files::answer_file;
 pub use files::decide_file;

@@ -1,13 +1,15 @@
 // The number that a call for C gives back: the lowest byte is the refusal number, or 0; the rest is the place, the count of bytes, the three counts of a clash, or the verdict.
+// A place in a solver's lines, which may be of any length, is told by its lowest 56 bits: no memory is longer.
 use clash::ClashWritten;
 use outcome::Check;
 use outcome::Refusal;
 use outcome::Verdict;
 use outcome::Written;
+use solved::Solved;
 ghost use mathlib.Core.Path.{_≡_};
 ghost use Prim.Native.Nat.{_≤_};
 ghost use Rattle.outcome.specs.Verdicts.{verdictByte};
-ghost use Rattle.sayfudhoum.specs.Numbers.{maxPlace, IsSmall, IsShort, IsFew, refusalNumber, writtenNumber, outcomeNumber, clashedNumber};
+ghost use Rattle.sayfudhoum.specs.Numbers.{maxPlace, IsSmall, IsShort, IsFew, IsBrief, refusalNumber, writtenNumber, outcomeNumber, clashedNumber, placedNumber, asNumber};
 
 fn refusal_number(refusal: Refusal) -> u64
     requires { ⌜ refusal .place ≤ maxPlace ⌝ }
@@ -59,5 +61,26 @@ pub(crate) fn clash_number(written: ClashWritten) -> u64
             (part as u64 + indexes as u64 * INDEXES + answer as u64 * ANSWER) * 256
         }
         ClashWritten::Refused(refusal) => refusal_number(refusal),
+    }
+}
+
+// The bits of the rest of a number.
+const REST: u64 = 1 << 56;
+
+// A refusal at any place.
+fn placed_number(refusal: Refusal) -> u64
+    ensures { λ r. ⌜ r ≡ placedNumber refusal ⌝ }
+{
+    refusal.place as u64 % REST * 256 + refusal.number as u64
+}
+
+pub(crate) fn solved_number(solved: Solved) -> u64
+    requires { ⌜ IsBrief solved ⌝ }
+    ensures { λ r. ⌜ r ≡ asNumber solved ⌝ }
+{
+    match solved {
+        Solved::Answered(count) => count as u64 * 256,
+        Solved::SaidUnsatisfiable => 0,
+        Solved::Refused(refusal) => placed_number(refusal),
     }
 }
