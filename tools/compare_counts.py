@@ -39,9 +39,9 @@ class Tally:
 
     def line(self, title):
         return ('%s: questions %d, possible %d, impossible %d, patterns compared %d, models judged %d, '
-                'clashing statements %d, differences 0' % (
+                'read back %d, clashing statements %d, differences 0' % (
                     title, self.questions, self.possible, self.questions - self.possible, self.patterns, self.models,
-                    self.clashing))
+                    self.models, self.clashing))
 
 
 def clash(statements, can_hold):
@@ -155,8 +155,8 @@ def main():
     print(tally.line('drawn at random'))
     with open(os.path.join(os.path.dirname(__file__), '..', 'crates', 'compare', 'stdin')) as lines:
         said = [line[0] for line in lines]
-    print('verdicts of cvc5: questions %d, possible %d, impossible %d, models judged %d, differences 0' % (
-        len(said), said.count('P'), said.count('I'), said.count('P')))
+    print('verdicts of cvc5: questions %d, possible %d, impossible %d, models judged %d, read back %d, differences 0' % (
+        len(said), said.count('P'), said.count('I'), said.count('P'), said.count('P')))
 
 
 main()

@@ -2,7 +2,8 @@
 ghost use mathlib.Core.Path.{_≡_};
 ghost use Prim.Native.Nat.{_≤_};
 ghost use lib.ListN.{length};
-use crate::lines::decode;
+use crate::groups::decode;
+use crate::groups::second_group;
 use crate::models::answer;
 use crate::models::fill_rows;
 use crate::models::model;
@@ -15,6 +16,8 @@ use answer::read_answer;
 use answer::write_answer;
 use clash::clash;
 use clash::clash_file;
+use dimacs::clauses_file;
+use dimacs::write_clauses;
 use judge::judge;
 use outcome::Check;
 use outcome::Verdict;
@@ -29,6 +32,8 @@ use sayfudhoum::respond;
 use sayfudhoum::sayfudhoum_verdict;
 use search::SearchAnswer;
 use search::search;
+use solved::solve;
+use solved::solve_file;
 
 // T: the check of a table.
 fn check_table(bytes: &[u8]) {
@@ -241,6 +246,60 @@ fn clash_question_file(bytes: &[u8], group: &[u8]) {
     );
 }
 
+fn file_clauses_into(bytes: &[u8], buf: &mut [u8]) {
+    outcomes::clauses(clauses_file(bytes, buf), buf);
+}
+
+// N: the clauses of a question file, with room for so many bytes.
+fn file_clauses(bytes: &[u8], group: &[u8]) {
+    let mut buf = outcomes::lent();
+    let n = room(group, 0);
+    file_clauses_into(bytes, &mut buf[0..n]);
+}
+
+fn table_clauses_into(bytes: &[u8], buf: &mut [u8]) {
+    outcomes::clauses(write_clauses(table(bytes), buf), buf);
+}
+
+// M: the clauses of a table, with room for so many bytes.
+fn table_clauses(bytes: &[u8], group: &[u8]) {
+    let mut buf = outcomes::lent();
+    let n = room(group, 0);
+    table_clauses_into(bytes, &mut buf[0..n]);
+}
+
+fn long_clauses_into(bytes: &[u8], buf: &mut [u8]) {
+    outcomes::long(write_clauses(table(bytes), buf), buf);
+}
+
+// H: how many bytes the clauses of a table have, and their sum.
+fn long_clauses(bytes: &[u8]) {
+    let mut buf = io::large_buffer();
+    long_clauses_into(bytes, &mut buf);
+}
+
+fn file_solved_into(bytes: &[u8], lines: &[u8], buf: &mut [u8]) {
+    outcomes::solved(solve_file(bytes, lines, buf), buf);
+}
+
+// L: a solver's lines beside a question file, with room for so many bytes of the answer.
+fn file_solved(bytes: &[u8], lines: &[u8], group: &[u8]) {
+    let mut buf = outcomes::lent();
+    let n = room(group, 0);
+    file_solved_into(bytes, lines, &mut buf[0..n]);
+}
+
+fn table_solved_into(bytes: &[u8], lines: &[u8], buf: &mut [u8]) {
+    outcomes::solved(solve(table(bytes), lines, buf), buf);
+}
+
+// V: a solver's lines beside a table, with room for so many bytes of the answer.
+fn table_solved(bytes: &[u8], lines: &[u8], group: &[u8]) {
+    let mut buf = outcomes::lent();
+    let n = room(group, 0);
+    table_solved_into(bytes, lines, &mut buf[0..n]);
+}
+
 fn run_case(letter: u8, first: &[u8], second: &[u8], third: &[u8]) {
     match letter {
         b'F' => read_file(first),
@@ -256,6 +315,11 @@ fn run_case(letter: u8, first: &[u8], second: &[u8], third: &[u8]) {
         b'P' => respond_to(first),
         b'C' => clash_question_file(first, second),
         b'K' => clash_table(first),
+        b'N' => file_clauses(first, second),
+        b'M' => table_clauses(first, second),
+        b'H' => long_clauses(first),
+        b'L' => file_solved(first, second, third),
+        b'V' => table_solved(first, second, third),
         _ => outcomes::text(b"no such case"),
     }
     outcomes::text(b"\n");
@@ -286,7 +350,7 @@ pub(crate) fn run_line(line: &[u8]) {
     }
     let mut bytes = io::buffer();
     let first = decode(line, 1, 0, &mut bytes);
-    let second = decode(line, first.next, first.total, &mut bytes);
+    let second = second_group(letter, line, first.next, first.total, &mut bytes);
     let third = decode(line, second.next, second.total, &mut bytes);
     run_groups(letter, &bytes, first.total, second.total, third.total);
 }

@@ -4,7 +4,7 @@ ghost use Prim.Native.Nat.{_≤_, max};
 ghost use lib.ListN.{length};
 
 mod commands;
-mod lines;
+mod groups;
 mod models;
 mod outcomes;
 mod tables;

@@ -7,6 +7,7 @@ use outcome::Refusal;
 use outcome::Verdict;
 use outcome::Written;
 use search::SearchAnswer;
+use solved::Solved;
 ghost use mathlib.Core.Path.{_≡_};
 ghost use lib.ListN.{length};
 
@@ -137,6 +138,86 @@ pub(crate) fn clash(w: ClashWritten, part: &[u8], indexes: &[u8], answer: &[u8])
             text(b", buffers");
             untouched(is_left(part, 0) & is_left(indexes, 0) & is_left(answer, 0));
         }
+    }
+}
+
+// A refusal beside a lent buffer.
+fn refused(r: Refusal, buf: &[u8]) {
+    refusal(r);
+    text(b", buffer");
+    untouched(is_left(buf, 0));
+}
+
+// Lines of text, with | for the end of each.
+fn lines(words: &[u8]) {
+    let mut i: usize = 0;
+    while i < words.len() {
+        let b = words[i];
+        text(&[if b == b'\n' { b'|' } else { b }]);
+        i += 1;
+    }
+}
+
+// The text of clauses in a lent buffer.
+pub(crate) fn clauses(w: Written, buf: &[u8]) {
+    match w {
+        Written::Count(count) => {
+            number(count);
+            text(b" bytes ");
+            if count <= buf.len() {
+                lines(&buf[0..count]);
+            }
+            text(b", the rest");
+            untouched(is_left(buf, count));
+        }
+        Written::Refused(r) => refused(r, buf),
+    }
+}
+
+fn added(sum: u64, b: u8) -> u64 {
+    std::num::wrapping_add_u64(sum, b as u64)
+}
+
+// The sum of the sums of bytes from the first on, so that their order counts.
+fn sum(words: &[u8]) -> u64 {
+    let mut first: u64 = 0;
+    let mut second: u64 = 0;
+    let mut i: usize = 0;
+    while i < words.len() {
+        first = added(first, words[i]);
+        second = std::num::wrapping_add_u64(second, first);
+        i += 1;
+    }
+    second
+}
+
+// A long text of clauses: how many bytes it has, and their sum.
+pub(crate) fn long(w: Written, buf: &[u8]) {
+    match w {
+        Written::Count(count) => {
+            number(count);
+            if count <= buf.len() {
+                text(b" bytes, sum ");
+                io::print_decimal(STDOUT_FILENO, sum(&buf[0..count]));
+            }
+        }
+        Written::Refused(r) => refusal(r),
+    }
+}
+
+// What a solver's lines came to, and what was put into the buffer.
+pub(crate) fn solved(s: Solved, buf: &[u8]) {
+    match s {
+        Solved::Answered(count) => {
+            front(b"answer", buf, count);
+            text(b", the rest");
+            untouched(is_left(buf, count));
+        }
+        Solved::SaidUnsatisfiable => {
+            text(b"said unsatisfiable, buffer");
+            untouched(is_left(buf, 0));
+        }
+        Solved::Refused(r) => refused(r, buf),
     }
 }
 

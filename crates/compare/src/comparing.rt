@@ -4,6 +4,7 @@ use crate::models::is_right;
 use crate::patterns::patterns;
 use crate::patterns::stated;
 use crate::printing;
+use crate::said;
 use crate::trials::exists;
 use answer::Answer;
 use clash::clash;
@@ -20,6 +21,8 @@ pub struct Tally {
     pub patterns: u64,
     // Models of the library, judged.
     pub models: u64,
+    // Of these, read back from a solver's lines.
+    pub read: u64,
     // Statements in the clashing parts.
     pub clashing: u64,
     pub differences: u64,
@@ -33,6 +36,7 @@ impl Tally {
             impossible: 0,
             patterns: 0,
             models: 0,
+            read: 0,
             clashing: 0,
             differences: 0,
         }
@@ -61,6 +65,19 @@ fn is_possible(answer: Answer) -> bool {
     }
 }
 
+// A model of the library, tested: by both tests, and by what is read from a solver's lines that say it.
+fn hold_model(t: Tally, q: Question, answer: Answer, possible: bool) -> Tally {
+    let mut counted = t;
+    counted.models = one_more(t.models);
+    if said::is_right(q, answer, t.models) {
+        counted.read = one_more(t.read);
+        if possible & is_right(q, answer) {
+            return counted;
+        }
+    }
+    differ(counted, q)
+}
+
 // The library's decision, held to whether the question is possible; where it shows a model, that is tested.
 pub(crate) fn hold(t: Tally, q: Question, possible: bool) -> Tally {
     let decision = decide(q);
@@ -70,12 +87,7 @@ pub(crate) fn hold(t: Tally, q: Question, possible: bool) -> Tally {
         Check::Refused(_) => differ(t, q),
         Check::Accepted => {
             if is_possible(answer) {
-                let mut counted = t;
-                counted.models = one_more(t.models);
-                if possible & is_right(q, answer) {
-                    return counted;
-                }
-                return differ(counted, q);
+                return hold_model(t, q, answer, possible);
             }
             if possible {
                 return differ(t, q);

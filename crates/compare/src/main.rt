@@ -9,6 +9,7 @@ mod orders;
 mod outside;
 mod patterns;
 mod printing;
+mod said;
 mod small;
 mod trials;
 

@@ -92,3 +92,8 @@ pub(crate) fn is_right(q: Question, answer: Answer) -> bool {
     let m = model_of(q, answer);
     is_judged(q, m) & is_met(q, m)
 }
+
+// Is what the answer shows a model of the question, by the second solver's test alone.
+pub(crate) fn meets(q: Question, answer: Answer) -> bool {
+    is_met(q, model_of(q, answer))
+}

@@ -46,6 +46,7 @@ pub(crate) fn tally(t: Tally) {
         number(b", patterns compared ", t.patterns);
     }
     number(b", models judged ", t.models);
+    number(b", read back ", t.read);
     if t.clashing != 0 {
         number(b", clashing statements ", t.clashing);
     }

@@ -4,8 +4,8 @@ use mathlib.Core.Path.{_≡_, refl}
 use native.Mathlib.Omega.{arith}
 use borrow.Author.Needs.{needs}
 use lib.ListN.{length, length-set}
-use Rattle.cases.proofs.lines.decode.Statement.{statement}
-use Rattle.cases.proofs.lines.decode.Tie as tie
+use Rattle.cases.proofs.groups.decode.Statement.{statement}
+use Rattle.cases.proofs.groups.decode.Tie as tie
 
 abbrev Inv-loop : tie.InvT-loop
 Inv-loop line from at bytes₀ total₀ i₀ bytes total i = (at ≤ total) × (total ≤ length bytes) × (length bytes ≡ length bytes₀)

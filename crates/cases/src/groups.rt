@@ -1,4 +1,5 @@
 // A case as it stands on its line: a letter, then bytes in hexadecimal, in up to three groups with / between.
+// A solver's lines are the second group as text, with | for the end of each.
 ghost use Prim.Native.Nat.{_≤_};
 ghost use lib.ListN.{length};
 ghost use mathlib.Core.Path.{_≡_};
@@ -71,4 +72,54 @@ pub(crate) fn decode(line: &[u8], from: usize, at: usize, bytes: &mut [u8]) -> D
         next: line.len(),
         total: total,
     }
+}
+
+// The byte that a byte of text stands for.
+fn meant(b: u8) -> u8 {
+    if b == b'|' { b'\n' } else { b }
+}
+
+// The bytes of a group of text, as `decode` has those of one in hexadecimal.
+fn spell(line: &[u8], from: usize, at: usize, bytes: &mut [u8]) -> Decoded
+    requires { ⌜ at ≤ length (now bytes) ⌝ }
+    ensures { λ r. ⌜ (at ≤ r .total) × (r .total ≤ length (now (bytes .entry))) × (length (now (bytes .exit)) ≡ length (now (bytes .entry))) ⌝ }
+{
+    let mut total = at;
+    let mut i = from;
+    while i < line.len() {
+        let b = line[i];
+        if b == b'/' {
+            return Decoded {
+                next: i + 1,
+                total: total,
+            };
+        }
+        if bytes.len() <= total {
+            break;
+        }
+        bytes[total] = meant(b);
+        total += 1;
+        i += 1;
+    }
+    Decoded {
+        next: line.len(),
+        total: total,
+    }
+}
+
+// The second group of a case: text beside the letters that have a solver's lines there.
+pub(crate) fn second_group(
+    letter: u8,
+    line: &[u8],
+    from: usize,
+    at: usize,
+    bytes: &mut [u8],
+) -> Decoded
+    requires { ⌜ at ≤ length (now bytes) ⌝ }
+    ensures { λ r. ⌜ (at ≤ r .total) × (r .total ≤ length (now (bytes .entry))) × (length (now (bytes .exit)) ≡ length (now (bytes .entry))) ⌝ }
+{
+    if (letter == b'L') | (letter == b'V') {
+        return spell(line, from, at, bytes);
+    }
+    decode(line, from, at, bytes)
 }
