@@ -1,9 +1,10 @@
 /*
- * Damaged files through all three functions. The question ends at a page that can't be read, each
+ * Damaged files through all five functions. The question ends at a page that can't be read, each
  * buffer stands between two, and the bytes beside it are looked at. Refusals and places are compared
  * with the tests' own reader. Of what is accepted, the answer must be an answer file with the verdict
  * of the other call and a model that meets every statement; of small questions, the first model. The
- * clashing part must be that of the tests' own finder, with the same answer.
+ * clashing part must be that of the tests' own finder, with the same answer, and the clauses those of the
+ * tests' own writer. The lines that say the answer's model must be read back as that answer.
  *
  *   bad_input [N]    tries every Nth file, 1 if it is left out, and prints how many there were
  */
@@ -11,7 +12,9 @@
 #include "damage.h"
 #include "files.h"
 #include "finder.h"
+#include "lines.h"
 #include "reader.h"
+#include "rounds.h"
 #include "sayfudhoum.h"
 #include "slices.h"
 #include "solver.h"
@@ -54,14 +57,21 @@ static uint8_t *next_buffer(size_t room)
 /* The question's refusal comes whatever the buffers' lengths are, and the buffers stay as they were. */
 static void try_refused(uint64_t refusal)
 {
-    size_t rooms[BUFFERS];
-    for (int each = 0; each < BUFFERS; each++)
+    size_t rooms[CLASH_BUFFERS];
+    for (int each = 0; each < CLASH_BUFFERS; each++)
         rooms[each] = tried % (longest_rooms[each] + 1);
     uint8_t *buffer = next_buffer(rooms[FOR_ANSWER]);
     uint64_t result = sayfudhoum_answer(question, length, buffer, rooms[FOR_ANSWER]);
     expect(result == refusal, "sayfudhoum_answer refused by another number or at another place");
     expect(untouched_after(FOR_ANSWER, 0), "sayfudhoum_answer refused and wrote");
     expect(refuses(question, length, rooms, next_edge(), refusal), "sayfudhoum_clash refused otherwise, or wrote");
+
+    static const uint8_t lines[] = "s UNSATISFIABLE\nx";
+    size_t some = tried % sizeof lines; /* of the lines, which can be good or bad */
+    const struct input input = {question, length, lend_lines(lines, some), some};
+    const struct due due = {refusal, lines, 0};
+    expect(gives(&input, FOR_CLAUSES, tried % 1000, next_edge(), &due), "sayfudhoum_clauses refused otherwise, or wrote");
+    expect(gives(&input, FOR_ANSWER, rooms[FOR_ANSWER], next_edge(), &due), "sayfudhoum_solved refused otherwise, or wrote");
 }
 
 /* A model must meet every statement. Where everything can be tried, the answer must be the first model. */
@@ -103,6 +113,30 @@ static void try_clash(const uint8_t *answer, size_t count)
     expect(refuses_short(question, length, next_edge(), &clash), "a clash in too little room was not refused by 10");
 }
 
+/* The clauses, in buffers that are just long enough, longer, and a byte too short. */
+static void try_clauses(const struct question *asked)
+{
+    static struct text text;
+    write_dimacs(asked, &text);
+    const struct input input = {question, length, NULL, 0};
+    const struct due due = {text.length * 256, text.bytes, text.length};
+    for (size_t room = text.length - 1; room <= text.length + 1; room++)
+        expect(gives(&input, FOR_CLAUSES, room, next_edge(), &due), "other clauses than the tests write");
+}
+
+/* The lines that say a model, in such buffers for the answer, which has to be this one. */
+static void try_lines(const struct question *asked, const struct model *model, const uint8_t *answer, size_t count)
+{
+    static struct text text;
+    struct values values;
+    values_of(asked, model, &values);
+    write_lines(&values, variables_of(asked), 1 + (unsigned)(tried % 20), &text);
+    const struct input input = {question, length, lend_lines(text.bytes, text.length), text.length};
+    const struct due due = {count * 256, answer, count};
+    for (size_t room = count - 1; room <= count + 1; room++)
+        expect(gives(&input, FOR_ANSWER, room, next_edge(), &due), "another answer to the answer's own lines");
+}
+
 static void try_accepted(const struct question *asked, uint64_t verdict)
 {
     uint8_t answer[SAYFUDHOUM_MAX_ANSWER_LENGTH];
@@ -120,10 +154,13 @@ static void try_accepted(const struct question *asked, uint64_t verdict)
     judge(asked, said, &model);
     try_rooms(answer, count);
     try_clash(answer, count);
-    if (said)
+    try_clauses(asked);
+    if (said) {
+        try_lines(asked, &model, answer, count);
         possible++;
-    else
+    } else {
         impossible++;
+    }
 }
 
 static void try_question(const uint8_t *bytes, size_t count)

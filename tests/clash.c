@@ -99,7 +99,7 @@ static size_t room_for(enum room room, size_t needed, size_t longest)
 /* Whether the call does what it has to, with buffers of these lengths: it is refused if any one is too short. */
 static int fine(const uint8_t *question, size_t length, const size_t *rooms, enum edge edge, const struct clash *clash)
 {
-    for (int buffer = 0; buffer < BUFFERS; buffer++)
+    for (int buffer = 0; buffer < CLASH_BUFFERS; buffer++)
         if (rooms[buffer] < clash->lengths[buffer])
             return refuses(question, length, rooms, edge, SAYFUDHOUM_BUFFER_TOO_SHORT);
     return leaves(question, length, rooms, edge, clash);
@@ -109,9 +109,9 @@ static int fine(const uint8_t *question, size_t length, const size_t *rooms, enu
 static int all_rooms(const uint8_t *question, size_t length, const struct clash *clash)
 {
     for (int choice = 0; choice < ROOMS * ROOMS * ROOMS; choice++) {
-        size_t rooms[BUFFERS];
+        size_t rooms[CLASH_BUFFERS];
         int left = choice;
-        for (int buffer = 0; buffer < BUFFERS; buffer++) {
+        for (int buffer = 0; buffer < CLASH_BUFFERS; buffer++) {
             rooms[buffer] = room_for((enum room)(left % ROOMS), clash->lengths[buffer], longest_rooms[buffer]);
             left /= ROOMS;
         }
@@ -235,18 +235,6 @@ static int try_steps(void)
 enum { DRAWN = 3000, LEAST_IMPOSSIBLE = 3000 };
 static unsigned long impossible, possible, stated, dropped, longest;
 
-/* Ends the test with the question that failed, in hexadecimal. */
-static void expect(int as_it_should_be, const char *otherwise, const struct file *file)
-{
-    if (as_it_should_be)
-        return;
-    printf("%s, with this question of %zu bytes:\n", otherwise, file->length);
-    for (size_t i = 0; i < file->length; i++)
-        printf(" %02X", file->bytes[i]);
-    printf("\n");
-    exit(1);
-}
-
 /* Whether the part is impossible, and without any one of its statements possible. */
 static int none_can_go(const uint8_t *part, size_t length, size_t statements)
 {
@@ -275,8 +263,8 @@ static int is_its_own(const struct clash *clash)
 static void try_impossible(const struct file *file, const struct clash *clash)
 {
     size_t count = clash->lengths[FOR_INDEXES], all = statements_of(file->bytes);
-    expect(none_can_go(clash->bytes[FOR_PART], clash->lengths[FOR_PART], count), "no clashing part", file);
-    expect(is_its_own(clash), "the part's part is another", file);
+    expect_of(none_can_go(clash->bytes[FOR_PART], clash->lengths[FOR_PART], count), "no clashing part", file);
+    expect_of(is_its_own(clash), "the part's part is another", file);
     impossible++;
     stated += all;
     dropped += all - count;
@@ -291,14 +279,14 @@ static void try_question(const struct file *file)
     struct clash clash;
     uint64_t result = sayfudhoum_answer(question, file->length, clash.bytes[FOR_ANSWER], longest_rooms[FOR_ANSWER]);
     if (sayfudhoum_refusal(result) != 0) {
-        expect(refuses(question, file->length, longest_rooms, BEFORE_PAGE, result), "not refused so", file);
+        expect_of(refuses(question, file->length, longest_rooms, BEFORE_PAGE, result), "not refused so", file);
         return;
     }
     clash.lengths[FOR_ANSWER] = sayfudhoum_rest(result);
     find_clash(question, file->length, &clash);
-    expect(leaves(question, file->length, longest_rooms, BEFORE_PAGE, &clash), "the two finders differ", file);
-    expect(leaves(question, file->length, clash.lengths, BEHIND_PAGE, &clash), "wrong in just enough room", file);
-    expect(refuses_short(question, file->length, BEFORE_PAGE, &clash), "wrong in too little room", file);
+    expect_of(leaves(question, file->length, longest_rooms, BEFORE_PAGE, &clash), "the two finders differ", file);
+    expect_of(leaves(question, file->length, clash.lengths, BEHIND_PAGE, &clash), "wrong in just enough room", file);
+    expect_of(refuses_short(question, file->length, BEFORE_PAGE, &clash), "wrong in too little room", file);
     if (clash.bytes[FOR_ANSWER][3] == 0)
         try_impossible(file, &clash);
     else

@@ -2,7 +2,7 @@
 
 #include <string.h>
 
-const size_t longest_rooms[BUFFERS] = {
+const size_t longest_rooms[CLASH_BUFFERS] = {
     [FOR_ANSWER] = SAYFUDHOUM_MAX_ANSWER_LENGTH,
     [FOR_PART] = SAYFUDHOUM_MAX_QUESTION_LENGTH,
     [FOR_INDEXES] = SAYFUDHOUM_MAX_STATEMENTS,
@@ -25,7 +25,7 @@ static uint64_t number_of(const struct clash *clash)
 /* Lends the three buffers, and calls. */
 static uint64_t call(const uint8_t *question, size_t length, const size_t *rooms, enum edge edge, uint8_t **lent)
 {
-    for (int buffer = 0; buffer < BUFFERS; buffer++)
+    for (int buffer = 0; buffer < CLASH_BUFFERS; buffer++)
         lent[buffer] = lend_buffer((enum buffer)buffer, rooms[buffer], edge);
     return sayfudhoum_clash(question, length, lent[FOR_PART], rooms[FOR_PART], lent[FOR_INDEXES],
                             rooms[FOR_INDEXES], lent[FOR_ANSWER], rooms[FOR_ANSWER]);
@@ -33,10 +33,10 @@ static uint64_t call(const uint8_t *question, size_t length, const size_t *rooms
 
 int leaves(const uint8_t *question, size_t length, const size_t *rooms, enum edge edge, const struct clash *clash)
 {
-    uint8_t *lent[BUFFERS];
+    uint8_t *lent[CLASH_BUFFERS];
     if (call(question, length, rooms, edge, lent) != number_of(clash))
         return 0;
-    for (int buffer = 0; buffer < BUFFERS; buffer++)
+    for (int buffer = 0; buffer < CLASH_BUFFERS; buffer++)
         if (memcmp(lent[buffer], clash->bytes[buffer], clash->lengths[buffer]) != 0
             || !untouched_after((enum buffer)buffer, clash->lengths[buffer]))
             return 0;
@@ -45,10 +45,10 @@ int leaves(const uint8_t *question, size_t length, const size_t *rooms, enum edg
 
 int refuses(const uint8_t *question, size_t length, const size_t *rooms, enum edge edge, uint64_t refusal)
 {
-    uint8_t *lent[BUFFERS];
+    uint8_t *lent[CLASH_BUFFERS];
     if (call(question, length, rooms, edge, lent) != refusal)
         return 0;
-    for (int buffer = 0; buffer < BUFFERS; buffer++)
+    for (int buffer = 0; buffer < CLASH_BUFFERS; buffer++)
         if (!untouched_after((enum buffer)buffer, 0))
             return 0;
     return 1;
@@ -56,8 +56,8 @@ int refuses(const uint8_t *question, size_t length, const size_t *rooms, enum ed
 
 int refuses_short(const uint8_t *question, size_t length, enum edge edge, const struct clash *clash)
 {
-    for (int buffer = 0; buffer < BUFFERS; buffer++) {
-        size_t rooms[BUFFERS];
+    for (int buffer = 0; buffer < CLASH_BUFFERS; buffer++) {
+        size_t rooms[CLASH_BUFFERS];
         memcpy(rooms, clash->lengths, sizeof rooms);
         if (rooms[buffer]-- > 0 && !refuses(question, length, rooms, edge, SAYFUDHOUM_BUFFER_TOO_SHORT))
             return 0;

@@ -6,14 +6,17 @@
 #include "slices.h"
 #include "table.h"
 
-/* What is written into each of the three buffers. */
+/* Its three buffers are the first of those that can be lent. */
+enum { CLASH_BUFFERS = FOR_INDEXES + 1 };
+
+/* What is written into each of them. */
 struct clash {
-    uint8_t bytes[BUFFERS][SAYFUDHOUM_MAX_QUESTION_LENGTH];
-    size_t lengths[BUFFERS];
+    uint8_t bytes[CLASH_BUFFERS][SAYFUDHOUM_MAX_QUESTION_LENGTH];
+    size_t lengths[CLASH_BUFFERS];
 };
 
 /* The lengths that are never too short. */
-extern const size_t longest_rooms[BUFFERS];
+extern const size_t longest_rooms[CLASH_BUFFERS];
 
 /* The clash of an example, from its bytes in hexadecimal. */
 void example_clash(const struct example *example, struct clash *clash);

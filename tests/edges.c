@@ -1,5 +1,6 @@
 /* The edges of document 01, and refusals in the order in which they come: all worked out by hand. */
 #include "clashes.h"
+#include "rounds.h"
 #include "sayfudhoum.h"
 #include "slices.h"
 #include "table.h"
@@ -74,6 +75,15 @@ static const struct edge_case {
     {"a in x with the highest names", NAMES_8_16 "12 00 02 07 0F " END, 0, 0},
 };
 
+/* The round through a solver: the question's refusal comes before that of bad lines and before 10. */
+static int refuses_round(const uint8_t *question, size_t length, uint64_t refusal)
+{
+    static const uint8_t bad_line[] = {'x', '\n'};
+    const struct input input = {question, length, lend_lines(bad_line, sizeof bad_line), sizeof bad_line};
+    const struct due due = {refusal, bad_line, 0};
+    return gives_in_rooms(&input, FOR_CLAUSES, &due) && gives_in_rooms(&input, FOR_ANSWER, &due);
+}
+
 /* All functions refuse it so, or none does. A refused question is never refused by 10, and nothing is written. */
 static int as_expected(const struct edge_case *edge_case)
 {
@@ -81,7 +91,7 @@ static int as_expected(const struct edge_case *edge_case)
     size_t length = from_hex(edge_case->question, bytes);
     const uint8_t *question = lend_question(bytes, length);
     uint64_t verdict = sayfudhoum_verdict(question, length);
-    static const size_t no_rooms[BUFFERS] = {0};
+    static const size_t no_rooms[CLASH_BUFFERS] = {0};
     if (edge_case->refusal == 0)
         return sayfudhoum_refusal(verdict) == 0
             && refuses(question, length, no_rooms, BEFORE_PAGE, SAYFUDHOUM_BUFFER_TOO_SHORT);
@@ -93,7 +103,8 @@ static int as_expected(const struct edge_case *edge_case)
             return 0;
     }
     return refuses(question, length, no_rooms, BEFORE_PAGE, verdict)
-        && refuses(question, length, longest_rooms, BEFORE_PAGE, verdict);
+        && refuses(question, length, longest_rooms, BEFORE_PAGE, verdict)
+        && refuses_round(question, length, verdict);
 }
 
 int main(void)

@@ -3,6 +3,8 @@
 #include "reader.h"
 #include "table.h"
 
+#include <stdio.h>
+#include <stdlib.h>
 #include <string.h>
 
 void put_bytes(struct file *file, const uint8_t *bytes, size_t count)
@@ -153,4 +155,15 @@ void crowded_file(struct file *file)
         } while (repeats(file->bytes + start));
     }
     put_field(file, 0x7F, 0, 0, 0, 0);
+}
+
+void expect_of(int as_it_should_be, const char *otherwise, const struct file *file)
+{
+    if (as_it_should_be)
+        return;
+    printf("%s, with this question of %zu bytes:\n", otherwise, file->length);
+    for (size_t i = 0; i < file->length; i++)
+        printf(" %02X", file->bytes[i]);
+    printf("\n");
+    exit(1);
 }

@@ -29,4 +29,7 @@ void random_file(struct file *file);
 /* The same, with many statements, none of which clashes or says nothing by itself. Most are impossible. */
 void crowded_file(struct file *file);
 
+/* Ends the test with the question that failed, in hexadecimal. */
+void expect_of(int as_it_should_be, const char *otherwise, const struct file *file);
+
 #endif

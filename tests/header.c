@@ -1,6 +1,6 @@
 /*
- * The header by itself, first and twice, as C99 and as C++11: its constants are document 01's
- * numbers, all three functions link, and a result comes apart.
+ * The header by itself, first and twice, as C99 and as C++11: its constants are the numbers of documents
+ * 01 and 02, all five functions link, and a result comes apart.
  */
 #include "sayfudhoum.h"
 #include "sayfudhoum.h"
@@ -14,6 +14,8 @@ SAME(MAX_STATEMENTS, 64);
 SAME(MAX_TERMS, 12);
 SAME(MAX_QUESTION_LENGTH, 5 + 64 * 6 + 3);
 SAME(MAX_ANSWER_LENGTH, 4 + (3 + 12) + (3 + 24) + 3);
+/* The first line, "p cnf 259 5076", and as many clauses of the longest kind, "-259 -259 -259 0": of triples, pairs, rows. */
+SAME(MAX_CLAUSES_LENGTH, 15 + (3 * 220 + 2 * 66 * 16 + 3 * 768) * 17);
 SAME(TAG_NAMES, 1);
 SAME(TAG_ELEMENTS_EQUAL, 16);
 SAME(TAG_ELEMENTS_DIFFER, 17);
@@ -43,6 +45,8 @@ SAME(BYTES_AFTER_END, 9);
 SAME(BUFFER_TOO_SHORT, 10);
 SAME(BAD_MODEL, 11);
 SAME(BAD_ROW, 12);
+SAME(BAD_LINES, 13);
+SAME(MODEL_FAILS, 14);
 
 /* A result of sayfudhoum_clash comes apart into its three counts. */
 static int counts(uint64_t result, size_t part, size_t indexes, size_t answer)
@@ -76,9 +80,28 @@ static int clashes(void)
         && indexes[0] == 0 && indexes[1] == 1;
 }
 
+/* e0 != e0: the spare variable and its denial; its value is no model, and what a solver says of it is its word. */
+static int goes_round(void)
+{
+    static const uint8_t question[] = {SAYFUDHOUM_TAG_NAMES,           0, 2, 1, 0,
+                                       SAYFUDHOUM_TAG_ELEMENTS_DIFFER, 0, 2, 0, 0,
+                                       SAYFUDHOUM_TAG_END,             0, 0};
+    static const uint8_t model[] = {'s', ' ', 'S', 'A', 'T', 'I', 'S', 'F', 'I', 'A', 'B', 'L', 'E', '\n', 'v', ' ', '1',
+                                    ' ', '0', '\n'};
+    static const uint8_t none[] = {'s', ' ', 'U', 'N', 'S', 'A', 'T', 'I', 'S', 'F', 'I', 'A', 'B', 'L', 'E', '\n'};
+    static uint8_t clauses[SAYFUDHOUM_MAX_CLAUSES_LENGTH];
+    uint8_t answer[SAYFUDHOUM_MAX_ANSWER_LENGTH];
+    return sayfudhoum_clauses(question, sizeof question, clauses, sizeof clauses) == 256 * 19
+        && sayfudhoum_solved(question, sizeof question, none, sizeof none, answer, sizeof answer) == 0
+        && sayfudhoum_solved(question, sizeof question, model, sizeof model, answer, sizeof answer)
+               == SAYFUDHOUM_MODEL_FAILS
+        && sayfudhoum_solved(question, sizeof question, model, 18, answer, sizeof answer)
+               == 256 * 14 + SAYFUDHOUM_BAD_LINES;
+}
+
 int main(void)
 {
-    if (!counts_come_apart() || !clashes())
+    if (!counts_come_apart() || !clashes() || !goes_round())
         return 1;
 
     /* Case A, where nothing is declared or stated: possible, and its answer has 13 bytes. */

@@ -13,12 +13,23 @@ static void *fresh(void *old, size_t length)
     return slice;
 }
 
+static const uint8_t *lend(uint8_t **slice, const uint8_t *bytes, size_t length)
+{
+    *slice = fresh(*slice, length);
+    memcpy(*slice, bytes, length);
+    return *slice;
+}
+
 const uint8_t *lend_question(const uint8_t *bytes, size_t length)
 {
     static uint8_t *question;
-    question = fresh(question, length);
-    memcpy(question, bytes, length);
-    return question;
+    return lend(&question, bytes, length);
+}
+
+const uint8_t *lend_lines(const uint8_t *bytes, size_t length)
+{
+    static uint8_t *lines;
+    return lend(&lines, bytes, length);
 }
 
 static struct lent {

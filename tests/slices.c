@@ -21,14 +21,26 @@ static uint8_t *new_area(void)
     return all + size;
 }
 
+/* At the end of the area, which is made at the first call. */
+static const uint8_t *lend(uint8_t **area, const uint8_t *bytes, size_t length)
+{
+    if (*area == NULL)
+        *area = new_area();
+    uint8_t *slice = *area + LONGEST_SLICE - length;
+    memcpy(slice, bytes, length);
+    return slice;
+}
+
 const uint8_t *lend_question(const uint8_t *bytes, size_t length)
 {
     static uint8_t *area;
-    if (area == NULL)
-        area = new_area();
-    uint8_t *question = area + LONGEST_SLICE - length;
-    memcpy(question, bytes, length);
-    return question;
+    return lend(&area, bytes, length);
+}
+
+const uint8_t *lend_lines(const uint8_t *bytes, size_t length)
+{
+    static uint8_t *area;
+    return lend(&area, bytes, length);
 }
 
 static struct lent {

@@ -9,13 +9,14 @@
 #include <stddef.h>
 #include <stdint.h>
 
-enum { LONGEST_SLICE = 65536 };
+enum { LONGEST_SLICE = 131072 };
 
-/* A copy of the bytes whose last one stands right before a page that can't be read. */
+/* A copy of the bytes whose last one stands right before a page that can't be read: one of each at the same time. */
 const uint8_t *lend_question(const uint8_t *bytes, size_t length);
+const uint8_t *lend_lines(const uint8_t *bytes, size_t length);
 
 /* What a buffer is for. One of each can be lent at the same time. */
-enum buffer { FOR_ANSWER, FOR_PART, FOR_INDEXES, BUFFERS };
+enum buffer { FOR_ANSWER, FOR_PART, FOR_INDEXES, FOR_CLAUSES, BUFFERS };
 
 /* A buffer right behind such a page, or right before one. */
 enum edge { BEHIND_PAGE, BEFORE_PAGE };

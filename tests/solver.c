@@ -33,6 +33,30 @@ int read_answer(const uint8_t *bytes, size_t length, const struct question *ques
     return memcmp(field + 3 + 2 * model->size, end, sizeof end) == 0 ? 1 : -1;
 }
 
+/* Puts a field behind what is there, but for its body; gives the place of the body. */
+static uint8_t *head(uint8_t *to, uint8_t tag, size_t length)
+{
+    *to++ = tag;
+    *to++ = 0;
+    *to++ = (uint8_t)length;
+    return to;
+}
+
+size_t write_answer(const struct question *question, const struct model *model, uint8_t *bytes)
+{
+    uint8_t *to = head(bytes, 0x40, 1);
+    *to++ = 1;
+    to = head(to, 0x41, question->terms);
+    for (size_t term = 0; term < question->terms; term++)
+        *to++ = (uint8_t)model->classes[term];
+    to = head(to, 0x42, 2 * model->size);
+    for (size_t class = 0; class < model->size; class++) {
+        *to++ = (uint8_t)(model->masks[class] / 256);
+        *to++ = (uint8_t)(model->masks[class] % 256);
+    }
+    return (size_t)(head(to, 0x7F, 0) - bytes);
+}
+
 static unsigned bit(unsigned mask, uint8_t set)
 {
     return (mask >> set) & 1;

@@ -14,6 +14,9 @@ struct model {
 /* Reads an answer file to this question: 1 possible, with its model, 0 impossible, -1 no such file. */
 int read_answer(const uint8_t *bytes, size_t length, const struct question *question, struct model *model);
 
+/* Writes the answer file that says possible, with this model; gives its length. */
+size_t write_answer(const struct question *question, const struct model *model, uint8_t *bytes);
+
 /* Whether every statement holds in the model. Witnesses play no part in it. */
 int meets(const struct question *question, const struct model *model);
 

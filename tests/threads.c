@@ -1,4 +1,7 @@
-/* Several threads decide cases A to N and find their clashing parts at once, each with buffers of its own. */
+/*
+ * Several threads decide cases A to N, find their clashing parts and write their clauses at once, each with
+ * buffers of its own; and each reads lines back for case I.
+ */
 #include "sayfudhoum.h"
 #include "table.h"
 
@@ -43,12 +46,41 @@ static int finds(const struct example *example)
         && reads(answer, sayfudhoum_clash_answer_length(result), example->answer);
 }
 
+/* Clauses that other calls write at the same time: the same as they were alone, before the threads began. */
+enum { ROOM = 32768 };
+static uint8_t clauses[EXAMPLES][ROOM];
+static uint64_t results[EXAMPLES];
+
+static uint64_t write_clauses(const struct example *example, uint8_t *buffer)
+{
+    uint8_t question[SAYFUDHOUM_MAX_QUESTION_LENGTH];
+    return sayfudhoum_clauses(question, from_hex(example->question, question), buffer, ROOM);
+}
+
+static int writes(size_t number)
+{
+    uint8_t buffer[ROOM];
+    uint64_t result = write_clauses(&examples[number], buffer);
+    return result == results[number] && memcmp(buffer, clauses[number], sayfudhoum_rest(result)) == 0;
+}
+
+static int solves(void)
+{
+    static const char lines[] = "s SATISFIABLE\nv -1 2 3 -4 5 -6 0\n";
+    uint8_t question[SAYFUDHOUM_MAX_QUESTION_LENGTH], answer[SAYFUDHOUM_MAX_ANSWER_LENGTH];
+    const struct example *example = &examples['I' - 'A'];
+    uint64_t result = sayfudhoum_solved(question, from_hex(example->question, question), (const uint8_t *)lines,
+                                        sizeof lines - 1, answer, sizeof answer);
+    return sayfudhoum_refusal(result) == 0 && reads(answer, sayfudhoum_rest(result), example->answer);
+}
+
 static void *work(void *argument)
 {
     struct worker *worker = argument;
     for (size_t i = 0; i < CALLS; i++) {
-        const struct example *example = &examples[(worker->first + i) % EXAMPLES];
-        if (!decides(example) || !finds(example))
+        size_t number = (worker->first + i) % EXAMPLES;
+        const struct example *example = &examples[number];
+        if (!decides(example) || !finds(example) || !writes(number) || !solves())
             worker->failed = example->name;
     }
     return NULL;
@@ -58,6 +90,10 @@ int main(void)
 {
     struct worker workers[THREADS];
     int failed = 0;
+    for (size_t i = 0; i < EXAMPLES; i++) {
+        results[i] = write_clauses(&examples[i], clauses[i]);
+        failed |= sayfudhoum_refusal(results[i]) != 0;
+    }
     for (size_t i = 0; i < THREADS; i++) {
         workers[i].first = i;
         workers[i].failed = NULL;
