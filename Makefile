@@ -2,6 +2,7 @@
 # make example    decides case I and two versions of a trimming step, and prints in words the answers and what clashes
 # make test       the gate: all crates from nothing, every must-fail edit, and the tests through C
 # make memcheck   a part of the damaged files under valgrind, on x86-64 only
+# make outside    gives clauses to cadical and minisat, and reads back what they print
 # make bench      times the library beside cvc5, minisat and cadical, and compares verdicts and cores
 # make install    header, archive, program and pkg-config file, below PREFIX (and that below DESTDIR)
 # make clean      removes what was built
@@ -17,7 +18,7 @@ archive = target/staticlib/libsayfudhoum.a
 program = target/bin/decide
 place = $(DESTDIR)$(abspath $(PREFIX))
 
-.PHONY: all library program example test memcheck bench install clean
+.PHONY: all library program example test memcheck outside bench install clean
 .NOTPARALLEL:
 
 all: program library
@@ -39,7 +40,7 @@ example: library
 test:
 	.ci/run
 
-memcheck_sources = bad_input clashes damage files finder heap_slices reader solver table
+memcheck_sources = bad_input clashes damage dimacs files finder heap_slices lines reader rounds solver table
 ifeq ($(shell uname -m),x86_64)
 memcheck: library
 	mkdir -p target/c
@@ -49,6 +50,12 @@ else
 memcheck:
 	$(error make memcheck needs an x86-64 machine, since valgrind emulates no other processor)
 endif
+
+outside_sources = dimacs lines reader solver
+outside: library
+	@mkdir -p target/c
+	tests/x86-64 cc $(CFLAGS) -Iinclude -Itests -o target/c/outside tools/outside.c $(outside_sources:%=tests/%.c) $(archive)
+	python3 tools/outside.py tests/x86-64 run target/c/outside
 
 bench: library
 	@mkdir -p target/c

@@ -3,15 +3,18 @@
  * line is written: the name, the verdict (1 possible, 0 impossible) and the nanoseconds of processor time
  * that one call of sayfudhoum_answer took, from question bytes to answer bytes. A batch repeats the call
  * until it has lasted long enough to be timed, and the shortest of several batches counts: five, or as
- * many as the first argument says. With a second argument, whatever it is, the line of an impossible
- * question goes on: the nanoseconds of one call of sayfudhoum_clash, and the clashing part, a question in
- * hexadecimal. That of a possible question stays as it is.
+ * many as the first argument says. With a second argument `clash` the line of an impossible question goes
+ * on: the nanoseconds of one call of sayfudhoum_clash, and the clashing part, a question in hexadecimal.
+ * That of a possible question stays as it is. With a second argument `clauses` every line goes on: the
+ * nanoseconds of one call of sayfudhoum_clauses, the bytes that it writes, and the nanoseconds that reading
+ * alone takes: a call that is refused because the last byte of the question is missing.
  */
 #define _POSIX_C_SOURCE 200809L /* clock_gettime */
 #include "sayfudhoum.h"
 
 #include <stdio.h>
 #include <stdlib.h>
+#include <string.h>
 #include <time.h>
 
 enum { LINE = 1024 };
@@ -22,6 +25,7 @@ static size_t length;
 static uint8_t answer[SAYFUDHOUM_MAX_ANSWER_LENGTH];
 static uint8_t part[SAYFUDHOUM_MAX_QUESTION_LENGTH];
 static uint8_t indexes[SAYFUDHOUM_MAX_STATEMENTS];
+static uint8_t clauses[SAYFUDHOUM_MAX_CLAUSES_LENGTH];
 
 static uint64_t decide(void)
 {
@@ -31,6 +35,16 @@ static uint64_t decide(void)
 static uint64_t clash(void)
 {
     return sayfudhoum_clash(question, length, part, sizeof part, indexes, sizeof indexes, answer, sizeof answer);
+}
+
+static uint64_t write_clauses(void)
+{
+    return sayfudhoum_clauses(question, length, clauses, sizeof clauses);
+}
+
+static uint64_t read_only(void)
+{
+    return sayfudhoum_verdict(question, length - 1);
 }
 
 static double now(void)
@@ -66,9 +80,25 @@ static double shortest(uint64_t (*call)(void), int batches)
     return taken / (double)calls;
 }
 
+static void time_clash(int batches)
+{
+    size_t written = sayfudhoum_part_length(clash());
+    printf(" %.0f ", shortest(clash, batches));
+    for (size_t i = 0; i < written; i++)
+        printf("%02x", part[i]);
+}
+
+static void time_clauses(int batches)
+{
+    size_t written = sayfudhoum_rest(write_clauses());
+    printf(" %.0f %zu", shortest(write_clauses, batches), written);
+    printf(" %.0f", shortest(read_only, batches));
+}
+
 int main(int count, char **words)
 {
     int batches = count > 1 ? atoi(words[1]) : 5;
+    const char *more = count > 2 ? words[2] : "";
     char line[LINE], name[LINE], hex[LINE];
     while (fgets(line, sizeof line, stdin) != NULL) {
         unsigned byte;
@@ -82,12 +112,10 @@ int main(int count, char **words)
             return 2;
         }
         printf("%s %d %.0f", name, answer[3], shortest(decide, batches));
-        if (count > 2 && answer[3] == 0) {
-            size_t written = sayfudhoum_part_length(clash());
-            printf(" %.0f ", shortest(clash, batches));
-            for (size_t i = 0; i < written; i++)
-                printf("%02x", part[i]);
-        }
+        if (strcmp(more, "clash") == 0 && answer[3] == 0)
+            time_clash(batches);
+        if (strcmp(more, "clauses") == 0)
+            time_clauses(batches);
         printf("\n");
         fflush(stdout);
     }

@@ -1,6 +1,7 @@
 #!/usr/bin/env python3
 """Times this library and other solvers on the stored questions, compares all verdicts and prints ratios. Then the
-same for the clashing part of each impossible question, beside the minimal unsat core of cvc5.
+same for the clashing part of each impossible question, beside the minimal unsat core of cvc5. Last what it takes to
+write the clauses of each question for an outside solver, beside reading it.
 
     bench/run.py DRIVER WORDS..     the command that runs the built driver.c
 
@@ -30,15 +31,20 @@ CORE = ['--produce-unsat-cores', '--minimal-unsat-cores']
 # where it was asked for it, the clashing part, a question in hexadecimal.
 
 
-def library(driver, questions, batches=5):
-    """Two dictionaries: of all questions, and of the clashes of those that are impossible."""
+def driven(driver, questions, batches, more):
+    """What the driver writes of each question, split into words."""
     # An emulator does the processor's string instructions byte by byte, so memset must not use them.
     tune = {} if platform.machine() == 'x86_64' else {'GLIBC_TUNABLES': 'glibc.cpu.hwcaps=-ERMS,-FSRM'}
     lines = ''.join(f'{name} {text}\n' for name, text in questions.items())
-    done = subprocess.run([*driver, str(batches), 'clash'], input=lines, stdout=subprocess.PIPE, text=True, check=True,
+    done = subprocess.run([*driver, str(batches), more], input=lines, stdout=subprocess.PIPE, text=True, check=True,
                           env={**os.environ, **tune})
+    return map(str.split, done.stdout.splitlines())
+
+
+def library(driver, questions, batches=5):
+    """Two dictionaries: of all questions, and of the clashes of those that are impossible."""
     answers, clashes = {}, {}
-    for name, verdict, taken, *clash in map(str.split, done.stdout.splitlines()):
+    for name, verdict, taken, *clash in driven(driver, questions, batches, 'clash'):
         answers[name] = int(verdict), float(taken) / 1e9, None
         if clash:
             clashes[name] = int(verdict), float(clash[0]) / 1e9, clash[1]
@@ -177,19 +183,24 @@ def check_parts(own):
             if verdict != (0 if name in own else 1)]
 
 
+def stored():
+    """Of each family its questions, by name."""
+    return {file.stem: dict(line.split() for line in file.read_text().splitlines())
+            for file in sorted(Path(__file__).with_name('questions').glob('*.txt'))}
+
+
 def compare_answers(driver, solvers, details):
     """Prints the table of all questions; gives the differences, and of each family the clashes and their questions."""
     differences, families = [], {}
     print_titles('family', 'questions', 'possible', 'median', 'worst', 'total', *solvers)
-    for file in sorted(Path(__file__).with_name('questions').glob('*.txt')):
-        questions = dict(line.split() for line in file.read_text().splitlines())
+    for family, questions in stored().items():
         own, clashes = library(driver, questions)
         others = {title: solve(questions) for title, solve in solvers.items()}
-        print_row(file.stem, len(own), sum(verdict for verdict, _, _ in own.values()), *own_times(own),
+        print_row(family, len(own), sum(verdict for verdict, _, _ in own.values()), *own_times(own),
                   *(ratios(own, other) for other in others.values()))
         differences += other_verdicts(own, others)
         if clashes:
-            families[file.stem] = clashes, {name: questions[name] for name in clashes}
+            families[family] = clashes, {name: questions[name] for name in clashes}
         for name, (verdict, _, _) in own.items():
             details[name] = [verdict, *(f'{results[name][1] * 1e6:.1f}' for results in (own, *others.values()))]
     return differences, families
@@ -218,6 +229,19 @@ def compare_clashes(driver, solvers, details, families):
     return differences
 
 
+def time_clauses(driver):
+    """Prints the table of what it takes to write the clauses: they are to be linear in the bytes that are written."""
+    print_titles('family', 'bytes, median', 'most', 'reading, median', 'reading and writing, median', 'worst',
+                 'ns a byte of writing alone, lowest', 'median', 'highest')
+    for family, questions in stored().items():
+        rows = [(int(count), float(writing), float(reading))
+                for _, _, _, writing, count, reading in driven(driver, questions, 5, 'clauses')]
+        counts, writings, readings = zip(*rows)
+        each = sorted((writing - reading) / count for count, writing, reading in rows)
+        print_row(family, f'{median(counts):.0f}', max(counts), *(readable(taken / 1e9) for taken in (
+            median(readings), median(writings), max(writings))), *(f'{ns:.2f}' for ns in (each[0], median(each), each[-1])))
+
+
 def main(driver):
     solvers, cores = ({title: solve for title, (command, solve) in all_of.items() if shutil.which(command)}
                       for all_of in (SOLVERS, CORES))
@@ -233,6 +257,8 @@ def main(driver):
     print('\nThe clashing parts of the impossible questions; how many statements a question, a part and a core have by the mean;')
     print('with the core, how often the part is smaller / the core is smaller / the core is not minimal\n')
     differences += compare_clashes(driver, cores, details, families)
+    print('\nThe clauses of all questions, as text\n')
+    time_clauses(driver)
     Path('target/bench.tsv').write_text(''.join('\t'.join(map(str, [name, *row])) + '\n' for name, row in details.items()))
     print('\n'.join(['', 'Each time in microseconds: target/bench.tsv', f'{len(differences)} differences', *differences]))
     return 1 if differences else 0
