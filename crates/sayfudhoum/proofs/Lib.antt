@@ -8,5 +8,6 @@ pub mod Exactness
 pub mod ClashEnds
 pub mod ClausesEnds
 pub mod SolvedEnds
+pub mod SolvedExactly
 pub mod Program
 pub mod OneOutcomeLaws
