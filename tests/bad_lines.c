@@ -122,17 +122,25 @@ static void try_moved(const struct text *lines)
     }
 }
 
+/* The answer to the question, and the values of its first model; their result, or 0 if it has none. */
+static uint64_t first_values(uint8_t answer[SAYFUDHOUM_MAX_ANSWER_LENGTH], struct values *values)
+{
+    struct model model;
+    uint64_t result = sayfudhoum_answer(input.question, input.question_length, answer, SAYFUDHOUM_MAX_ANSWER_LENGTH);
+    if (read_answer(answer, sayfudhoum_rest(result), &asked, &model) != 1)
+        return 0;
+    values_of(&asked, &model, values);
+    return result;
+}
+
 /* The lines of a question's first model with so many numbers on a line, and comments if they are wanted. */
 static int first_lines(unsigned on_a_line, const char *comment, struct text *lines)
 {
     static struct text said;
     uint8_t answer[SAYFUDHOUM_MAX_ANSWER_LENGTH];
-    struct model model;
     struct values values;
-    uint64_t result = sayfudhoum_answer(input.question, input.question_length, answer, sizeof answer);
-    if (read_answer(answer, sayfudhoum_rest(result), &asked, &model) != 1)
+    if (first_values(answer, &values) == 0)
         return 0;
-    values_of(&asked, &model, &values);
     write_lines(&values, variables_of(&asked), on_a_line, &said);
     lines->length = 0;
     put_characters(lines, comment);
@@ -168,13 +176,11 @@ static void try_turned(void)
 {
     static struct text lines;
     uint8_t answer[SAYFUDHOUM_MAX_ANSWER_LENGTH];
-    struct model model;
     struct values values;
-    uint64_t result = sayfudhoum_answer(input.question, input.question_length, answer, sizeof answer);
-    if (read_answer(answer, sayfudhoum_rest(result), &asked, &model) != 1)
+    uint64_t result = first_values(answer, &values);
+    if (result == 0)
         return;
     unsigned variables = variables_of(&asked);
-    values_of(&asked, &model, &values);
     write_lines(&values, variables, 12, &lines);
     try_lines(lines.bytes, lines.length);
     const struct due due = {result, answer, sayfudhoum_rest(result)};

@@ -297,18 +297,7 @@ int main(void)
 {
     int failed = try_by_hand(examples, EXAMPLES) | try_by_hand(by_hand, sizeof by_hand / sizeof by_hand[0]);
     failed |= try_steps();
-
-    struct file file;
-    for (size_t i = 0; i < HEAVY_FILES; i++) {
-        heavy_file(i, &file);
-        try_question(&file);
-    }
-    for (size_t i = 0; i < DRAWN; i++) {
-        random_file(&file);
-        try_question(&file);
-        crowded_file(&file);
-        try_question(&file);
-    }
+    try_files(DRAWN, try_question);
     printf("%lu impossible questions, with %lu of %lu statements dropped and %lu in the longest part; %lu possible\n",
            impossible, dropped, stated, longest, possible);
     if (impossible < LEAST_IMPOSSIBLE) {

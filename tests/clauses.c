@@ -121,16 +121,7 @@ static void try_questions(void)
         file.length = from_hex(examples[i].question, file.bytes);
         try_question(&file);
     }
-    for (size_t i = 0; i < HEAVY_FILES; i++) {
-        heavy_file(i, &file);
-        try_question(&file);
-    }
-    for (size_t i = 0; i < DRAWN; i++) {
-        random_file(&file);
-        try_question(&file);
-        crowded_file(&file);
-        try_question(&file);
-    }
+    try_files(DRAWN, try_question);
 }
 
 /*

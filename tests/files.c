@@ -157,6 +157,21 @@ void crowded_file(struct file *file)
     put_field(file, 0x7F, 0, 0, 0, 0);
 }
 
+void try_files(size_t drawn, void (*try_one)(const struct file *file))
+{
+    struct file file;
+    for (size_t i = 0; i < HEAVY_FILES; i++) {
+        heavy_file(i, &file);
+        try_one(&file);
+    }
+    for (size_t i = 0; i < drawn; i++) {
+        random_file(&file);
+        try_one(&file);
+        crowded_file(&file);
+        try_one(&file);
+    }
+}
+
 void expect_of(int as_it_should_be, const char *otherwise, const struct file *file)
 {
     if (as_it_should_be)

@@ -29,6 +29,9 @@ void random_file(struct file *file);
 /* The same, with many statements, none of which clashes or says nothing by itself. Most are impossible. */
 void crowded_file(struct file *file);
 
+/* Tries the heavy questions, and as many of each drawn kind as are asked for. */
+void try_files(size_t drawn, void (*try_one)(const struct file *file));
+
 /* Ends the test with the question that failed, in hexadecimal. */
 void expect_of(int as_it_should_be, const char *otherwise, const struct file *file);
 

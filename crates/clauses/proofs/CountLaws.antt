@@ -7,6 +7,7 @@ use native.Mathlib.Omega.{arith}
 use native.Mathlib.Nat.{mul-le-mul-left, mul-le-mul-right}
 use lib.Dec.{eqb}
 use lib.ListN.{length, length-append}
+use Rattle.text.specs.Pieces.{space, lineEnd}
 use Rattle.text.specs.declared.literals.Literal.{Literal}
 use Rattle.text.specs.Decimals.{decimal}
 use Rattle.text.specs.Literals.{is, isNot, minus, literalText}
@@ -23,7 +24,7 @@ use Rattle.theory.proofs.RuleLaws.{upward-length}
 use Rattle.theory.proofs.RowListLaws.{rows-few}
 use Rattle.clauses.specs.Variables.{pairCount, sameVariable, inVariable, spareVariable}
 use Rattle.clauses.specs.Clauses.{Clause, forEach, one, exactlyIf, tripleClauses, triplesOf, triplesFrom, triples, pairClauses, pairsOf, pairsFrom, pairs, testClauses, rowClauses, tableClauses, clausesOf}
-use Rattle.clauses.specs.Texts.{space, lineEnd, clauseLine, clauseLines, firstLine, longestClauses, clauseText}
+use Rattle.clauses.specs.Texts.{clauseLine, clauseLines, firstLine, longestClauses, clauseText}
 use Rattle.clauses.proofs.DeclaredLaws.{Short, every-short}
 
 -- the sum of g 0, .. , g (n - 1)

@@ -6,14 +6,14 @@ use native.Mathlib.Omega.{arith}
 use lib.ListN.{length, length-append, length-map}
 use Rattle.text.specs.Decimals.{digit, decimal}
 use Rattle.text.specs.Literals.{literalText}
-use Rattle.text.specs.Pieces.{until, pieces, Free}
+use Rattle.text.specs.Pieces.{space, lineEnd, until, pieces, Free}
 use Rattle.text.proofs.PieceLaws.{piece-then, free-piece, free-both, free-byte}
 use Rattle.text.proofs.LiteralLaws.{digits-free, literal-free}
 use Rattle.question.specs.declared.questions.Question.{Question}
 use Rattle.question.specs.Questions.{termsOf}
 use Rattle.clauses.specs.Variables.{spareVariable}
 use Rattle.clauses.specs.Clauses.{Clause, clausesOf}
-use Rattle.clauses.specs.Texts.{space, lineEnd, clauseLine, clauseLines, problem, firstLine, clauseText}
+use Rattle.clauses.specs.Texts.{clauseLine, clauseLines, problem, firstLine, clauseText}
 
 -- the lines without their ends
 abbrev pub lineOf : Clause → List ℕ

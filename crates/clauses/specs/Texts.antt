@@ -4,6 +4,7 @@ use mathlib.Core.List.{List, [], _∷_, _++_}
 use lib.ListN.{length}
 use Rattle.text.specs.Decimals.{decimal, digit}
 use Rattle.text.specs.Literals.{literalText}
+use Rattle.text.specs.Pieces.{space, lineEnd}
 use Rattle.question.specs.declared.questions.Question.{Question}
 use Rattle.question.specs.Questions.{termsOf}
 use Rattle.theory.specs.Rules.{Row}
@@ -11,13 +12,6 @@ use Rattle.theory.specs.Sets.{Test}
 use Rattle.theory.specs.Reduction.{rowList}
 use Rattle.clauses.specs.Variables.{spareVariable}
 use Rattle.clauses.specs.Clauses.{Clause, tableClauses}
-
--- a space, and the end of a line
-abbrev pub space : ℕ
-space = 0x20
-
-abbrev pub lineEnd : ℕ
-lineEnd = 0x0a
 
 -- literals with one space behind each, then 0
 abbrev pub clauseLine : Clause → List ℕ

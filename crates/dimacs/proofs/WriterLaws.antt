@@ -5,6 +5,7 @@ use mathlib.Core.List.{List, [], _∷_, map}
 use mathlib.Core.Logic.{⊎-elim}
 use native.Mathlib.Omega.{arith}
 use lib.ListN.{length, length-append}
+use Rattle.text.specs.Pieces.{space}
 use Rattle.outcome.specs.declared.refusals.Refusal.{Refusal}
 use Rattle.outcome.specs.declared.checks.Check.the-variants.{Accepted, Refused}
 use Rattle.outcome.specs.declared.writes.Written.the-variants.{Refused as NotWritten}
@@ -28,7 +29,7 @@ use Rattle.reduction.proofs.ReducingLaws.{packed-few}
 use Rattle.reduction.proofs.ReducedRows.{rows-say}
 use Rattle.dimacs.specs.declared.cursors.Cursor.{Cursor}
 use Rattle.clauses.specs.Clauses.{Clause}
-use Rattle.clauses.specs.Texts.{space, clauseLine, clauseLines, firstLine, dimacs, tableText, longestClauses, clauseText}
+use Rattle.clauses.specs.Texts.{clauseLine, clauseLines, firstLine, dimacs, tableText, longestClauses, clauseText}
 use Rattle.dimacs.specs.Walks.{Put, behind, Wrote, Room}
 use Rattle.dimacs.specs.Writes.{clausesWritten, clausesWrittenOver, fileClauses, fileClausesOver}
 

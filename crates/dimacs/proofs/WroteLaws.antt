@@ -6,6 +6,7 @@ use native.Mathlib.Omega.{arith}
 use native.Mathlib.Numerals.{add-one}
 use lib.ListN.{length, getD, take, drop, length-append, take-append-drop}
 use lib.Seq.{take-suc, take-all}
+use Rattle.text.specs.Pieces.{space, lineEnd}
 use Rattle.text.specs.declared.literals.Literal.{Literal}
 use Rattle.text.specs.Decimals.{decimal}
 use Rattle.text.specs.Literals.{literalText}
@@ -16,7 +17,7 @@ use Rattle.theory.specs.Sets.{Test}
 use Rattle.row.specs.Rows.{rowOf}
 use Rattle.dimacs.specs.declared.cursors.Cursor.{Cursor}
 use Rattle.clauses.specs.Clauses.{Clause, forEach, one, two, three}
-use Rattle.clauses.specs.Texts.{space, lineEnd, clauseLine, clauseLines, problem, firstLine}
+use Rattle.clauses.specs.Texts.{clauseLine, clauseLines, problem, firstLine}
 use Rattle.clauses.proofs.WalkLaws.{forEach-append}
 use Rattle.clauses.proofs.CountLaws.{lines-append, lines-length}
 use Rattle.dimacs.specs.Walks.{wordText, endText, numberText, Put, behind, Wrote, Room, each}

@@ -3,6 +3,7 @@ use Prim.Native.Nat.{ℕ, _+_, _-_, _≤_}
 use mathlib.Core.Path.{_≡_}
 use mathlib.Core.List.{List, [], _∷_, _++_}
 use lib.ListN.{length}
+use Rattle.text.specs.Pieces.{space, lineEnd}
 use Rattle.text.specs.declared.literals.Literal.{Literal}
 use Rattle.text.specs.Decimals.{digit, decimal}
 use Rattle.text.specs.Literals.{literalText}
@@ -10,7 +11,7 @@ use Rattle.text.specs.Laid.{laid}
 use Rattle.theory.specs.Rules.{upward}
 use Rattle.dimacs.specs.declared.cursors.Cursor.{Cursor}
 use Rattle.clauses.specs.Clauses.{Clause, forEach}
-use Rattle.clauses.specs.Texts.{space, lineEnd, clauseLines, longestClauses}
+use Rattle.clauses.specs.Texts.{clauseLines, longestClauses}
 
 -- a literal with its space, and what stands behind the literals of a clause
 abbrev pub wordText : Literal → List ℕ

@@ -8,7 +8,7 @@ use lib.ListN.{length}
 use Rattle.outcome.specs.declared.checks.Check.the-variants.{Accepted, Refused}
 use Rattle.outcome.specs.Refusals.{refusal, badLines}
 use Rattle.outcome.proofs.CheckLaws.{refused-accepted}
-use Rattle.text.specs.Pieces.{pieces}
+use Rattle.text.specs.Pieces.{lineEnd, pieces}
 use Rattle.lines.specs.declared.readings.Stage.{Stage}
 use Rattle.lines.specs.declared.readings.Stage.the-variants.{Start, Values, Valued, Refuted, Fault}
 use Rattle.lines.specs.declared.readings.Reading.{Reading}
@@ -16,7 +16,7 @@ use Rattle.lines.specs.declared.readings.LinesRead.{LinesRead}
 use Rattle.lines.specs.Stages.{stands}
 use Rattle.lines.specs.Values.{mostVariables}
 use Rattle.lines.specs.Steps.{start, lineStep}
-use Rattle.lines.specs.Reads.{lineEnd, ended, stoodThen, linesFrom, linesRead}
+use Rattle.lines.specs.Reads.{ended, stoodThen, linesFrom, linesRead}
 use Rattle.lines.specs.Sentences.{OfForm}
 use Rattle.lines.proofs.WalkLaws.{ended-at-start, ended-at-values, ended-at-valued, ended-at-refuted, ended-at-fault, stood, fell}
 use Rattle.lines.proofs.SentenceLaws.{accepted-says, reads-unsatisfiable, unsatisfiable-reads, reads-model, model-reads}

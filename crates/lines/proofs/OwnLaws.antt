@@ -10,13 +10,12 @@ use Rattle.outcome.proofs.Never.{never}
 use Rattle.text.specs.declared.literals.Literal.{Literal}
 use Rattle.text.specs.Decimals.{digitsIn}
 use Rattle.text.specs.Literals.{is, literalText}
-use Rattle.text.specs.Pieces.{until, Free}
+use Rattle.text.specs.Pieces.{space, lineEnd, until, Free}
 use Rattle.text.proofs.PieceLaws.{free-both, free-byte}
 use Rattle.text.proofs.LiteralLaws.{literal-free}
 use Rattle.theory.specs.Lists.{Every}
 use Rattle.theory.specs.Rules.{upward}
-use Rattle.lines.specs.Steps.{satisfiable, values, space}
-use Rattle.lines.specs.Reads.{lineEnd}
+use Rattle.lines.specs.Steps.{satisfiable, values}
 use Rattle.lines.specs.Sentences.{textOf, uncommented, numbersText, valuesLine, together, timesSaid, EachOnce, truthIn, HasOne, SaysModel, ownLiteral, ownLiterals, ownLines}
 
 -- no 0A stands in a `v` line

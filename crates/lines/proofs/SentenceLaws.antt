@@ -9,7 +9,7 @@ use Rattle.outcome.specs.declared.checks.Check.the-variants.{Accepted}
 use Rattle.outcome.proofs.Never.{never}
 use Rattle.text.specs.declared.literals.Literal.{Literal}
 use Rattle.text.specs.Literals.{is, Sayable}
-use Rattle.text.specs.Pieces.{pieces}
+use Rattle.text.specs.Pieces.{lineEnd, pieces}
 use Rattle.text.proofs.PieceLaws.{any-piece}
 use Rattle.theory.specs.Lists.{Every}
 use Rattle.theory.proofs.ListLaws.{every-map, every-front, every-back, every-append}
@@ -18,7 +18,7 @@ use Rattle.lines.specs.declared.readings.Stage.the-variants.{Values, Val
 use Rattle.lines.specs.declared.readings.Reading.{Reading}
 use Rattle.lines.specs.Values.{mostVariables, noValues, truthOf, allSaid}
 use Rattle.lines.specs.Steps.{satisfiable, unsatisfiable, sameBytes, start, atStage, saidStep}
-use Rattle.lines.specs.Reads.{lineEnd, read, linesFrom, linesRead}
+use Rattle.lines.specs.Reads.{read, linesFrom, linesRead}
 use Rattle.lines.specs.Sentences.{uncommented, valuesLine, together, truthIn, HasOne, SaysModel, SaysUnsatisfiable}
 use Rattle.lines.proofs.Folds.{stepsBy, steps-faulty}
 use Rattle.lines.proofs.TextLaws.{text-pieces, pieces-text}

@@ -12,12 +12,12 @@ use Rattle.text.specs.declared.literals.Literal.{Literal}
 use Rattle.text.specs.declared.literals.Word.{Word}
 use Rattle.text.specs.declared.literals.Word.the-variants.{Says, NotOne}
 use Rattle.text.specs.Literals.{wordRead}
-use Rattle.text.specs.Pieces.{until, pieces}
+use Rattle.text.specs.Pieces.{space, until, pieces}
 use Rattle.text.proofs.PieceLaws.{one-piece, some-piece, any-piece}
 use Rattle.lines.specs.declared.readings.Stage.the-variants.{Start, Values, Valued, Refuted, Fault}
 use Rattle.lines.specs.declared.readings.Reading.{Reading}
 use Rattle.lines.specs.Values.{valueOf, isSaid, allSaid, withValue}
-use Rattle.lines.specs.Steps.{satisfiable, unsatisfiable, values, space, sameBytes, isComment, atStage, valueStep, lastStep, numberStep, wordStep, wordSteps, valueLine, firstLine, saidStep, lineStep}
+use Rattle.lines.specs.Steps.{satisfiable, unsatisfiable, values, sameBytes, isComment, atStage, valueStep, lastStep, numberStep, wordStep, wordSteps, valueLine, firstLine, saidStep, lineStep}
 
 pub no-comment : (line : List ℕ) → length line ≡ 0 → isComment line ≡ false
 no-comment [] h = refl

@@ -2,10 +2,9 @@
 use Prim.Native.Nat.{ℕ}
 use mathlib.Core.Path.{_≡_, refl, sym, ap, _∙_}
 use mathlib.Core.List.{List, [], _∷_, _++_}
-use Rattle.text.specs.Pieces.{pieces, joined, Free, AllFree}
+use Rattle.text.specs.Pieces.{lineEnd, pieces, joined, Free, AllFree}
 use Rattle.text.proofs.PieceLaws.{piece-then, joined-pieces, pieces-free}
 use Rattle.theory.specs.Lists.{Every}
-use Rattle.lines.specs.Reads.{lineEnd}
 use Rattle.lines.specs.Sentences.{textOf}
 
 text-joined : (ls : List (List ℕ)) → joined lineEnd (ls ++ ([] ∷ [])) ≡ textOf ls

@@ -11,7 +11,7 @@ use Rattle.text.specs.declared.literals.Literal.{Literal}
 use Rattle.text.specs.declared.literals.Word.{Word}
 use Rattle.text.specs.declared.literals.Word.the-variants.{Says, NotOne}
 use Rattle.text.specs.Literals.{literalText, wordRead, Sayable}
-use Rattle.text.specs.Pieces.{pieces, joined, Free, until}
+use Rattle.text.specs.Pieces.{space, pieces, joined, Free, until}
 use Rattle.text.proofs.PieceLaws.{free-piece, piece-then, joined-pieces}
 use Rattle.text.proofs.LiteralLaws.{literal-read, word-literal, literal-free}
 use Rattle.theory.specs.Lists.{Every}
@@ -19,7 +19,7 @@ use Rattle.lines.specs.declared.readings.Stage.{Stage}
 use Rattle.lines.specs.declared.readings.Stage.the-variants.{Start, Values, Valued, Refuted, Fault}
 use Rattle.lines.specs.declared.readings.Reading.{Reading}
 use Rattle.lines.specs.Values.{valueOf, isSaid, allSaid}
-use Rattle.lines.specs.Steps.{values, space, sameBytes, atStage, lastStep, valueStep, numberStep, wordStep, wordSteps, valueLine, saidStep}
+use Rattle.lines.specs.Steps.{values, sameBytes, atStage, lastStep, valueStep, numberStep, wordStep, wordSteps, valueLine, saidStep}
 use Rattle.lines.specs.Sentences.{numbersText, valuesLine, together, HasOne}
 use Rattle.lines.proofs.Folds.{stepsBy, steps-faulty}
 use Rattle.lines.proofs.StepLaws.{word-at-fault, line-at-values, line-at-valued, line-at-fault}

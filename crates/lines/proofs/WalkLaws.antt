@@ -7,7 +7,7 @@ use native.Mathlib.Omega.{arith}
 use lib.ListN.{length, take, drop, length-drop, drop-of-length-le}
 use lib.Seq.{take-all, drop-drop, length-take-le}
 use Rattle.outcome.proofs.Never.{never}
-use Rattle.text.specs.Pieces.{until, pieces}
+use Rattle.text.specs.Pieces.{lineEnd, until, pieces}
 use Rattle.text.proofs.PieceLaws.{one-piece, some-piece, any-piece}
 use Rattle.lines.specs.declared.readings.Stage.{Stage}
 use Rattle.lines.specs.declared.readings.Stage.the-variants.{Start, Values, Valued, Refuted, Fault}
@@ -15,7 +15,7 @@ use Rattle.lines.specs.declared.readings.Reading.{Reading}
 use Rattle.lines.specs.declared.readings.LinesRead.{LinesRead}
 use Rattle.lines.specs.Stages.{stands}
 use Rattle.lines.specs.Steps.{start, lineStep}
-use Rattle.lines.specs.Reads.{lineEnd, badAt, read, ended, stoodThen, linesFrom, linesRead}
+use Rattle.lines.specs.Reads.{badAt, read, ended, stoodThen, linesFrom, linesRead}
 
 -- the end of the data
 module _ (at : ℕ) (r : Reading) where

@@ -5,16 +5,12 @@ use mathlib.Core.List.{List, [], _∷_}
 use lib.ListN.{length}
 use Rattle.outcome.specs.declared.checks.Check.the-variants.{Accepted, Refused}
 use Rattle.outcome.specs.Refusals.{refusal, badLines}
-use Rattle.text.specs.Pieces.{pieces}
+use Rattle.text.specs.Pieces.{lineEnd, pieces}
 use Rattle.lines.specs.declared.readings.Stage.{Stage}
 use Rattle.lines.specs.declared.readings.Stage.the-variants.{Start, Values, Valued, Refuted, Fault}
 use Rattle.lines.specs.declared.readings.Reading.{Reading}
 use Rattle.lines.specs.declared.readings.LinesRead.{LinesRead}
 use Rattle.lines.specs.Steps.{start, lineStep}
-
--- the end of a line
-abbrev pub lineEnd : ℕ
-lineEnd = 0x0a
 
 -- 13 at a place, with the reading of no line beside it
 abbrev pub badAt : ℕ → LinesRead

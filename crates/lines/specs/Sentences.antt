@@ -7,11 +7,10 @@ use mathlib.Core.Logic.{_⊎_}
 use lib.Dec.{eqb}
 use Rattle.text.specs.declared.literals.Literal.{Literal}
 use Rattle.text.specs.Literals.{is, literalText}
-use Rattle.text.specs.Pieces.{Free}
+use Rattle.text.specs.Pieces.{space, lineEnd, Free}
 use Rattle.theory.specs.Lists.{Every}
 use Rattle.theory.specs.Rules.{upward}
-use Rattle.lines.specs.Steps.{satisfiable, unsatisfiable, values, space, isComment}
-use Rattle.lines.specs.Reads.{lineEnd}
+use Rattle.lines.specs.Steps.{satisfiable, unsatisfiable, values, isComment}
 
 -- lines, each with its 0A
 unfoldable pub textOf : List (List ℕ) → List ℕ

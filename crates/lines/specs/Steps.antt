@@ -7,7 +7,7 @@ use Rattle.text.specs.declared.literals.Literal.{Literal}
 use Rattle.text.specs.declared.literals.Word.{Word}
 use Rattle.text.specs.declared.literals.Word.the-variants.{Says, NotOne}
 use Rattle.text.specs.Literals.{wordRead}
-use Rattle.text.specs.Pieces.{pieces}
+use Rattle.text.specs.Pieces.{space, pieces}
 use Rattle.lines.specs.declared.readings.Value.{Value}
 use Rattle.lines.specs.declared.readings.Stage.{Stage}
 use Rattle.lines.specs.declared.readings.Stage.the-variants.{Start, Values, Valued, Refuted, Fault}
@@ -23,9 +23,6 @@ unsatisfiable = 0x73 ∷ 0x20 ∷ 0x55 ∷ 0x4e ∷ 0x53 ∷ 0x41 ∷ 0x54 ∷ 0
 
 abbrev pub values : List ℕ
 values = 0x76 ∷ []
-
-abbrev pub space : ℕ
-space = 0x20
 
 -- are the bytes the same
 unfoldable pub sameBytes : List ℕ → List ℕ → Bool

@@ -6,8 +6,8 @@ use crate::words::SPACE;
 use crate::words::word_steps;
 use text::piece_length;
 ghost use mathlib.Core.Path.{_≡_};
-ghost use Rattle.text.specs.Pieces.{pieces};
-ghost use Rattle.lines.specs.Steps.{space, sameBytes, isComment, valueLine, firstLine, saidStep, lineStep};
+ghost use Rattle.text.specs.Pieces.{space, pieces};
+ghost use Rattle.lines.specs.Steps.{sameBytes, isComment, valueLine, firstLine, saidStep, lineStep};
 
 // The first byte of a line that is passed over.
 const COMMENT: u8 = 0x63;

@@ -10,8 +10,8 @@ use text::Word;
 use text::literal_in;
 use text::piece_length;
 ghost use mathlib.Core.Path.{_≡_};
-ghost use Rattle.text.specs.Pieces.{pieces};
-ghost use Rattle.lines.specs.Steps.{space, valueStep, lastStep, numberStep, wordStep, wordSteps};
+ghost use Rattle.text.specs.Pieces.{space, pieces};
+ghost use Rattle.lines.specs.Steps.{valueStep, lastStep, numberStep, wordStep, wordSteps};
 
 // What stands between words.
 pub(crate) const SPACE: u8 = 0x20;

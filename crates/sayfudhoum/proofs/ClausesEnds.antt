@@ -16,13 +16,13 @@ use Rattle.outcome.specs.declared.checks.Check.the-variants.{Accepted, Refused}
 use Rattle.outcome.specs.Calls.{Call}
 use Rattle.outcome.specs.Writes.{over, fitted, fittedOver, checkedThen, checkedOver}
 use Rattle.outcome.proofs.OverLaws.{over-length}
-use Rattle.text.specs.Pieces.{pieces}
+use Rattle.text.specs.Pieces.{lineEnd, pieces}
 use Rattle.question.specs.declared.questions.Question.{Question}
 use Rattle.question_file.specs.Reads.{readQuestion}
 use Rattle.question_file.proofs.RefusalLaws.{refusal-told}
 use Rattle.clauses.specs.Clauses.{clausesOf}
 use Rattle.clauses.specs.Meaning.{Satisfiable}
-use Rattle.clauses.specs.Texts.{lineEnd, clauseText, longestClauses}
+use Rattle.clauses.specs.Texts.{clauseText, longestClauses}
 use Rattle.dimacs.specs.Writes.{fileClauses, fileClausesOver}
 use Rattle.clauses.proofs.CountLaws.{text-short}
 use Rattle.clauses.proofs.TextLaws.{lineOf, headOf, text-lines}

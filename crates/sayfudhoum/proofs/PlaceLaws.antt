@@ -10,7 +10,7 @@ use Rattle.outcome.specs.declared.refusals.Refusal.{Refusal}
 use Rattle.outcome.specs.declared.checks.Check.the-variants.{Refused}
 use Rattle.outcome.specs.Refusals.{refusal, badLines}
 use Rattle.outcome.proofs.Never.{never}
-use Rattle.text.specs.Pieces.{pieces, joined}
+use Rattle.text.specs.Pieces.{lineEnd, pieces, joined}
 use Rattle.text.proofs.PieceLaws.{joined-pieces}
 use Rattle.lines.specs.declared.readings.Stage.{Stage}
 use Rattle.lines.specs.declared.readings.Stage.the-variants.{Start, Values, Valued, Refuted, Fault}
@@ -18,7 +18,7 @@ use Rattle.lines.specs.declared.readings.Reading.{Reading}
 use Rattle.lines.specs.declared.readings.LinesRead.{LinesRead}
 use Rattle.lines.specs.Stages.{stands}
 use Rattle.lines.specs.Steps.{start, lineStep}
-use Rattle.lines.specs.Reads.{lineEnd, badAt, read, ended, stoodThen, linesFrom, linesRead}
+use Rattle.lines.specs.Reads.{badAt, read, ended, stoodThen, linesFrom, linesRead}
 use Rattle.lines.proofs.WalkLaws.{ended-at-start, ended-at-values, ended-at-valued, ended-at-refuted, ended-at-fault, stood, fell}
 use Rattle.sayfudhoum.specs.Numbers.{placedNumber}
 

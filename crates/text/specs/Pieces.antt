@@ -5,6 +5,13 @@ use mathlib.Core.List.{List, [], _∷_, _++_}
 use mathlib.Core.Path.{_≡_}
 use lib.Dec.{eqb}
 
+-- the two separators: a space, between words, and the end of a line
+abbrev pub space : ℕ
+space = 0x20
+
+abbrev pub lineEnd : ℕ
+lineEnd = 0x0a
+
 -- the bytes before the first separator; all of them if there is none
 unfoldable pub until : ℕ → List ℕ → List ℕ
 until sep [] = []

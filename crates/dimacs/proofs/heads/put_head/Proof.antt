@@ -6,7 +6,8 @@ use mathlib.Core.List.{[], _∷_, _++_}
 use native.Mathlib.Omega.{arith}
 use borrow.Author.Needs.{needs}
 use lib.ListN.{length}
-use Rattle.clauses.specs.Texts.{problem, space, lineEnd}
+use Rattle.text.specs.Pieces.{space, lineEnd}
+use Rattle.clauses.specs.Texts.{problem}
 use Rattle.dimacs.specs.Walks.{numberText, Put}
 use Rattle.dimacs.proofs.WroteLaws.{put-more, put-as, head-line, head-length}
 use Rattle.dimacs.proofs.heads.put_head.Statement.{statement}

@@ -5,8 +5,8 @@ use mathlib.Core.Path.{_≡_, refl, sym, ap, _∙_}
 use mathlib.Core.List.{[], _∷_}
 use borrow.Author.Needs.{needs}
 use lib.ListN.{set}
+use Rattle.text.specs.Pieces.{lineEnd}
 use Rattle.text.proofs.LaidLaws.{laid-one, laid-first}
-use Rattle.clauses.specs.Texts.{lineEnd}
 use Rattle.dimacs.proofs.literals.put_end.Statement.{statement}
 use Rattle.dimacs.proofs.literals.put_end.Tie as tie
 

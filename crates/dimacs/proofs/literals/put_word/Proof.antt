@@ -6,9 +6,10 @@ use mathlib.Core.List.{[], _∷_}
 use native.Mathlib.Omega.{arith}
 use borrow.Author.Needs.{needs}
 use lib.ListN.{length, set, length-append}
+use Rattle.text.specs.Pieces.{space}
 use Rattle.text.specs.Literals.{literalText}
 use Rattle.text.proofs.LaidLaws.{laid-one, laid-behind}
-use Rattle.clauses.specs.Texts.{space, longestClauses}
+use Rattle.clauses.specs.Texts.{longestClauses}
 use Rattle.dimacs.proofs.literals.put_word.Statement.{statement}
 use Rattle.dimacs.proofs.literals.put_word.Tie as tie
 

@@ -7,9 +7,9 @@ use native.Mathlib.Omega.{arith}
 use borrow.Author.Needs.{needs}
 use borrow.Author.Tests.{not-true, not-false}
 use lib.ListN.{length, take, drop, length-take, length-drop}
-use Rattle.text.specs.Pieces.{pieces}
+use Rattle.text.specs.Pieces.{lineEnd, pieces}
 use Rattle.text.proofs.PieceLaws.{until-within}
-use Rattle.lines.specs.Reads.{lineEnd, stoodThen, linesFrom, linesRead}
+use Rattle.lines.specs.Reads.{stoodThen, linesFrom, linesRead}
 use Rattle.lines.proofs.WalkLaws.{walk-starts, walk-end, walk-stops, walk-goes, stood, fell}
 use Rattle.lines.proofs.reads.read_lines.Statement.{statement}
 use Rattle.lines.proofs.reads.read_lines.Tie as tie

@@ -5,8 +5,8 @@ use mathlib.Core.Path.{sym, _∙_}
 use native.Mathlib.Omega.{arith}
 use borrow.Author.Needs.{needs}
 use lib.ListN.{length, length-take}
+use Rattle.text.specs.Pieces.{space}
 use Rattle.text.proofs.PieceLaws.{until-within}
-use Rattle.lines.specs.Steps.{space}
 use Rattle.lines.proofs.StepLaws.{line-of-one, line-of-words, line-of-others}
 use Rattle.lines.proofs.steps.value_line.Statement.{statement}
 use Rattle.lines.proofs.steps.value_line.Tie as tie

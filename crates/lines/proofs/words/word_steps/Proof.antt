@@ -5,9 +5,9 @@ use mathlib.Core.Path.{_≡_, refl, sym, ap, _∙_}
 use native.Mathlib.Omega.{arith}
 use borrow.Author.Needs.{needs}
 use lib.ListN.{length, take, drop, length-take}
-use Rattle.text.specs.Pieces.{pieces}
+use Rattle.text.specs.Pieces.{space, pieces}
 use Rattle.text.proofs.PieceLaws.{until-within}
-use Rattle.lines.specs.Steps.{space, wordSteps}
+use Rattle.lines.specs.Steps.{wordSteps}
 use Rattle.lines.proofs.StepLaws.{words-last, words-more}
 use Rattle.lines.proofs.words.word_steps.Statement.{statement}
 use Rattle.lines.proofs.words.word_steps.Tie as tie
