@@ -29,11 +29,11 @@ use Rattle.number.proofs.NumberLaws.{bytes-drop}
 use Rattle.answer.specs.declared.answers.Answer.{Answer}
 use Rattle.answer.specs.declared.reads.ReadAnswer.{ReadAnswer}
 use Rattle.answer.specs.Answers.{asAnswer, impossibleAnswer, IsArranged, MaySay}
-use Rattle.answer.specs.Bodies.{maskBytes, masksBody, masksIn}
+use Rattle.body.specs.Bodies.{maskBytes, masksBody, masksIn}
 use Rattle.answer.specs.Bytes.{numbersBytes, masksBytes, modelBytes, fileOf}
 use Rattle.answer.specs.Checks.{isArrangement, allBelow}
 use Rattle.answer.specs.Reads.{dueFrame, accepted, refusedAt, framedThen, goodThen, endRead, masksRead, numbersRead, verdictRead, fileRead}
-use Rattle.answer.proofs.BodyLaws.{in-length, body-in}
+use Rattle.body.proofs.BodyLaws.{in-length, body-in}
 use Rattle.answer.proofs.GoodLaws.{classes-few}
 use Rattle.answer.proofs.MayLaws.{arranged}
 use Rattle.answer.proofs.SizeLaws.{verdict-sized, numbers-sized, masks-sized, end-sized}

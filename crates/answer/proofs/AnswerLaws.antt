@@ -16,10 +16,10 @@ use Rattle.field.specs.Writes.{fieldLength}
 use Rattle.field.proofs.WriteLaws.{length-written}
 use Rattle.answer.specs.declared.answers.Answer.{Answer}
 use Rattle.answer.specs.Answers.{cutTo, saidBy, said, verdictOf}
-use Rattle.answer.specs.Bodies.{maskBytes, masksBody}
+use Rattle.body.specs.Bodies.{maskBytes, masksBody}
 use Rattle.answer.specs.Checks.{classesIn}
 use Rattle.answer.specs.Bytes.{verdictBytes, numbersBytes, masksBytes, solutionBytes, modelBytes, fileOf}
-use Rattle.answer.proofs.BodyLaws.{body-length}
+use Rattle.body.proofs.BodyLaws.{body-length}
 use Rattle.answer.proofs.SizeLaws.{verdict-sized, numbers-sized, masks-sized, end-sized}
 
 module _ (T : ℕ) (a : Answer) where

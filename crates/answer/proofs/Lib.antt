@@ -1,6 +1,5 @@
 -- Laws that belong to no one function, in the order in which they rest on each other.
--- The answer as a value, its tests and its bodies:
-pub mod BodyLaws
+-- The answer as a value, and its tests:
 pub mod SizeLaws
 pub mod CheckLaws
 pub mod AnswerLaws

@@ -19,11 +19,11 @@ use Rattle.field.specs.Heads.{headLength, endBytes}
 use Rattle.field.proofs.FrameLaws.{due-sound}
 use Rattle.answer.specs.declared.answers.Answer.{Answer}
 use Rattle.answer.specs.Answers.{asAnswer, impossibleAnswer, IsArranged, MaySay}
-use Rattle.answer.specs.Bodies.{maskBytes, masksBody, masksIn}
+use Rattle.body.specs.Bodies.{maskBytes, masksBody, masksIn}
 use Rattle.answer.specs.Bytes.{verdictBytes, numbersBytes, masksBytes, modelBytes, fileOf}
 use Rattle.answer.specs.Checks.{isArrangement, allBelow}
 use Rattle.answer.specs.Reads.{dueFrame, accepted, endRead, masksRead, verdictRead, fileRead}
-use Rattle.answer.proofs.BodyLaws.{body-length, in-body}
+use Rattle.body.proofs.BodyLaws.{body-length, in-body}
 use Rattle.answer.proofs.SizeLaws.{verdict-sized, numbers-sized, masks-sized, end-sized}
 use Rattle.answer.proofs.MayLaws.{arrangement-tested, masks-tested}
 use Rattle.answer.proofs.ReadLaws.{file-sound, verdict-none, verdict-some, numbers-good, masks-good, end-whole}

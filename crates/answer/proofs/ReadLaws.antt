@@ -15,7 +15,7 @@ use Rattle.field.specs.Heads.{headLength}
 use Rattle.answer.specs.declared.answers.Answer.{Answer}
 use Rattle.answer.specs.Answers.{impossibleAnswer}
 use Rattle.answer.specs.Checks.{isArrangement, allBelow}
-use Rattle.answer.specs.Bodies.{maskBytes, masksIn}
+use Rattle.body.specs.Bodies.{maskBytes, masksIn}
 use Rattle.answer.specs.Reads.{dueFrame, accepted, refusedAt, endRead, masksRead, numbersRead, verdictRead, fileRead}
 
 module _ (bytes : List ℕ) (at : ℕ) (a : Answer) where

@@ -29,7 +29,7 @@ use Rattle.outcome.specs.declared.writes.Written.the-variants.{Count}
 use Rattle.answer.specs.Answers.{said, asAnswer, cleaned, HasTwelve, MaySay}
 use Rattle.answer.specs.Bytes.{fileOf, answerBytes}
 use Rattle.number.specs.Numbers.{AreBytes}
-use Rattle.answer.specs.Bodies.{maskBytes}
+use Rattle.body.specs.Bodies.{maskBytes}
 use Rattle.answer.specs.Reads.{accepted, refusedFile, fileRead, readAnswer}
 use Rattle.outcome.specs.Checks.{acceptedThen}
 use Rattle.answer.specs.Writes.{written, writtenOver}

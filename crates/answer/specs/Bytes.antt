@@ -11,7 +11,7 @@ use Rattle.outcome.specs.declared.verdicts.Verdict.{Verdict}
 use Rattle.outcome.specs.Verdicts.{verdictByte}
 use Rattle.answer.specs.declared.answers.Answer.{Answer}
 use Rattle.answer.specs.Answers.{said, verdictOf}
-use Rattle.answer.specs.Bodies.{maskBytes, masksBody}
+use Rattle.body.specs.Bodies.{maskBytes, masksBody}
 
 -- field 40
 abbrev pub verdictBytes : Verdict → List ℕ

@@ -26,7 +26,7 @@ use Rattle.field.specs.Heads.{headLength}
 use Rattle.field.specs.Frames.{frameOf}
 use Rattle.answer.specs.declared.reads.ReadAnswer.{ReadAnswer}
 use Rattle.answer.specs.Answers.{impossibleAnswer, filler}
-use Rattle.answer.specs.Bodies.{maskBytes, masksIn}
+use Rattle.body.specs.Bodies.{maskBytes, masksIn}
 use Rattle.answer.specs.Checks.{isArrangement, allBelow}
 
 -- a refusal, with the filler beside it

@@ -1,6 +1,6 @@
 // The answer to a question: a verdict, the class number of each term, and the mask of each class.
 // Class numbers past the terms and masks past the classes are ignored; of an impossible answer only the verdict is looked at.
-use crate::bodies::MASK_BYTES;
+use body::MASK_BYTES;
 use field::Frame;
 use outcome::Verdict;
 use question::Question;

@@ -1,12 +1,12 @@
 // The reader of answer files: bytes beside a question to an answer, or a refusal with its number and place. It does not judge the answer.
 use crate::answers::Answer;
-use crate::bodies::MASK_BYTES;
-use crate::bodies::masks_at;
-use crate::bodies::numbers_at;
 use crate::checks::ClassCount;
 use crate::checks::all_below;
 use crate::checks::count_classes;
 use crate::checks::mask_bound;
+use body::MASK_BYTES;
+use body::masks_in;
+use body::numbers_in;
 use field::Due;
 use field::File;
 use field::Frame;
@@ -86,7 +86,7 @@ fn read_masks(
         Frame::Refused(number) => refuse(number, at),
         Frame::Sound(_, n) => {
             let body = at + Frame::HEAD;
-            let masks = masks_at(bytes, body, classes);
+            let masks = masks_in(&bytes[body..body + n]);
             if !all_below(masks, classes, bound) {
                 return refuse(Refusal::BAD_MODEL, at);
             }
@@ -109,7 +109,7 @@ fn read_numbers(bytes: &[u8], at: usize, terms: usize, bound: u64) -> ReadAnswer
         Frame::Refused(number) => refuse(number, at),
         Frame::Sound(_, n) => {
             let body = at + Frame::HEAD;
-            let numbers = numbers_at(bytes, body, terms);
+            let numbers = numbers_in(&bytes[body..body + n]);
             match count_classes(numbers, terms) {
                 ClassCount::Against => refuse(Refusal::BAD_MODEL, at),
                 ClassCount::Classes(classes) => {

@@ -1,10 +1,10 @@
 // The writer of answer files: an answer beside its question into a lent buffer, field by field.
 use crate::answers::Answer;
-use crate::bodies::MASK_BYTES;
 use crate::bodies::mask_body;
 use crate::checks::AnswerCheck;
 use crate::checks::check_answer;
 use crate::checks::mask_bound;
+use body::MASK_BYTES;
 use field::File;
 use field::field_length;
 use field::put_field;

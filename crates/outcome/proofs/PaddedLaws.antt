@@ -1,5 +1,5 @@
 -- So many entries of which the first are some numbers and the rest is 0: how they are filled, and what is read off them.
-use Prim.Native.Nat.{ℕ, suc, _+_, _-_, _≤_, _<_}
+use Prim.Native.Nat.{ℕ, zero, suc, _+_, _-_, _≤_, _<_}
 use mathlib.Core.Path.{_≡_, refl, sym, ap, _∙_}
 use mathlib.Core.List.{List, [], _∷_, _++_, append-assoc}
 use native.Mathlib.Omega.{arith}
@@ -7,6 +7,20 @@ use native.Mathlib.Numerals.{add-one}
 use lib.ListN.{length, getD, take, set, replicate, length-append, length-replicate}
 use lib.Seq.{length-take-le, take-suc, take-all, take-append-seam, set-at}
 use Rattle.outcome.specs.Padded.{padded}
+
+-- an entry past the numbers is 0, as an entry past the array
+zeros : (n i : ℕ) → _≡_ {A = ℕ} (getD (replicate n 0) i 0) 0
+zeros zero i = refl
+zeros (suc n) zero = refl
+zeros (suc n) (suc i) = zeros n i
+
+behind : (l : List ℕ) (n i : ℕ) → getD (l ++ replicate n 0) i 0 ≡ getD l i 0
+behind [] n i = zeros n i
+behind (x ∷ l) n zero = refl
+behind (x ∷ l) n (suc i) = behind l n i
+
+pub padded-entry : (size : ℕ) (l : List ℕ) (i : ℕ) → getD (padded size l) i 0 ≡ getD l i 0
+padded-entry size l i = behind l (size - length l) i
 
 pub padded-none : (size : ℕ) → replicate size 0 ≡ padded size []
 padded-none size = ap (λ n. replicate n 0) (let z : size ≡ size - 0 = omega arith in z)

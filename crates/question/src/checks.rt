@@ -1,4 +1,4 @@
-// The check of a question that is handed in as a table, and the number of its terms.
+// The check of a question that is handed in as a table, and the numbers of its statements and of its terms.
 use crate::admissions::admit;
 use crate::questions::Question;
 use outcome::Check;
@@ -6,6 +6,7 @@ use outcome::Refusal;
 use statement::witness_of;
 ghost use mathlib.Core.Path.{_≡_};
 ghost use Prim.Native.Nat.{_≤_};
+ghost use lib.ListN.{length};
 ghost use Rattle.question.specs.Limits.{maxStatements};
 ghost use Rattle.question.specs.Questions.{statements, termsOf};
 ghost use Rattle.question.specs.Checks.{namesCheckedAt, statementsChecked, checked};
@@ -61,6 +62,17 @@ pub fn check(q: Question) -> Check
             check_statements(q)
         }
     }
+}
+
+// How many statements the table has: a count past its records counts those alone.
+pub fn statement_count(q: Question) -> usize
+    ensures { λ r. ⌜ (r ≡ length (statements q)) × (r ≤ maxStatements) ⌝ }
+{
+    let count = q.count;
+    if Question::MAX_STATEMENTS < count {
+        return Question::MAX_STATEMENTS;
+    }
+    count
 }
 
 // T, the number of terms: the element names, and a witness for each statement x ≠ y before the count.

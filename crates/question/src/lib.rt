@@ -9,6 +9,7 @@ pub use admissions::admit;
 pub use admissions::may_add;
 pub use checks::check;
 pub use checks::check_names;
+pub use checks::statement_count;
 pub use checks::terms;
 pub use questions::Question;
 pub use questions::Record;

@@ -6,6 +6,7 @@ use outcome::Refusal;
 use outcome::Written;
 use question::Question;
 use question::check;
+use question::statement_count;
 use question::terms;
 use statement::Statement;
 use statement::witness_of;
@@ -13,8 +14,8 @@ ghost use mathlib.Core.Path.{_≡_};
 ghost use Prim.Native.Nat.{_≤_};
 ghost use lib.ListN.{length};
 ghost use Rattle.outcome.specs.Writes.{over};
-ghost use Rattle.question.specs.Limits.{maxStatements, maxTerms};
-ghost use Rattle.question.specs.Questions.{statements, termsOf};
+ghost use Rattle.question.specs.Limits.{maxTerms};
+ghost use Rattle.question.specs.Questions.{termsOf};
 ghost use Rattle.reduction.specs.Writing.{statementRows};
 ghost use Rattle.reduction.specs.Reducing.{packedRows, rowsWritten, rowsWrittenOver, reduced, reducedOver};
 
@@ -35,17 +36,6 @@ fn row_count(s: Statement, terms: usize) -> usize
         Statement::Intersection(_, _, _) => terms,
         Statement::Difference(_, _, _) => terms,
     }
-}
-
-// How many statements the table has: a count past its records counts those alone.
-fn statement_count(q: Question) -> usize
-    ensures { λ r. ⌜ (r ≡ length (statements q)) × (r ≤ maxStatements) ⌝ }
-{
-    let count = q.count;
-    if Question::MAX_STATEMENTS < count {
-        return Question::MAX_STATEMENTS;
-    }
-    count
 }
 
 // How many rows the table gives.

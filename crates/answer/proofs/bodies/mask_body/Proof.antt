@@ -7,8 +7,8 @@ use lib.ListN.{length, getD, take, drop, length-append, length-take, length-drop
 use Rattle.question.specs.Limits.{maxTerms}
 use Rattle.number.specs.Numbers.{bytesOf}
 use Rattle.number.proofs.NumberLaws.{bytes-length}
-use Rattle.answer.specs.Bodies.{maskBytes, masksBody}
-use Rattle.answer.proofs.BodyLaws.{body-none, body-more}
+use Rattle.body.specs.Bodies.{maskBytes, masksBody}
+use Rattle.body.proofs.BodyLaws.{body-none, body-more}
 use Rattle.answer.proofs.bodies.mask_body.Statement.{statement}
 use Rattle.answer.proofs.bodies.mask_body.Tie as tie
 

@@ -9,10 +9,10 @@ use Rattle.outcome.specs.declared.verdicts.Verdict.the-variants.{Possible}
 use Rattle.field.specs.declared.tags.File.the-variants.{Answer as AnswerFile}
 use Rattle.field.specs.Writes.{fieldLength}
 use Rattle.answer.specs.Answers.{cutTo}
-use Rattle.answer.specs.Bodies.{maskBytes}
+use Rattle.body.specs.Bodies.{maskBytes}
 use Rattle.answer.specs.Bytes.{numbersBytes, masksBytes, fileOf}
 use Rattle.answer.proofs.AnswerLaws.{said-none, said-some, verdict-length, numbers-length, masks-length, end-length, none-length, some-length}
-use Rattle.answer.proofs.BodyLaws.{body-length}
+use Rattle.body.proofs.BodyLaws.{body-length}
 use Rattle.answer.proofs.writes.file_length.Statement.{statement}
 use Rattle.answer.proofs.writes.file_length.Tie as tie
 

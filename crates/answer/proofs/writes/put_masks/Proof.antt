@@ -9,8 +9,8 @@ use lib.Seq.{length-take-le}
 use Rattle.question.specs.Limits.{maxTerms}
 use Rattle.field.specs.Writes.{fieldCount, fieldOver}
 use Rattle.field.proofs.WriteLaws.{written}
-use Rattle.answer.specs.Bodies.{maskBytes, masksBody}
-use Rattle.answer.proofs.BodyLaws.{body-length}
+use Rattle.body.specs.Bodies.{maskBytes, masksBody}
+use Rattle.body.proofs.BodyLaws.{body-length}
 use Rattle.answer.proofs.writes.put_masks.Statement.{statement}
 use Rattle.answer.proofs.writes.put_masks.Tie as tie
 

@@ -8,14 +8,14 @@ use lib.ListN.{length, take, drop, length-take, length-drop}
 use lib.Seq.{length-take-le, take-all}
 use Rattle.number.specs.Numbers.{mostBytes, numberIn}
 use Rattle.number.proofs.NumberLaws.{number-below, bytes-take, bytes-drop}
-use Rattle.answer.specs.Bodies.{maskBytes}
-use Rattle.answer.proofs.bodies.mask_at.Statement.{statement}
-use Rattle.answer.proofs.bodies.mask_at.Tie as tie
+use Rattle.body.specs.Bodies.{maskBytes}
+use Rattle.body.proofs.bodies.mask_at.Statement.{statement}
+use Rattle.body.proofs.bodies.mask_at.Tie as tie
 
 returns : tie.Need-returns
 returns c =
     let a = c .before .before .before .args in
-    let rest = drop (a .at) (now (a .bytes)) in
+    let rest = drop (a .at) (now (a .body)) in
     let few : a .at + maskBytes - a .at ≡ maskBytes = omega arith in
     c .number-in .ensures
     ∙ ap numberIn (take-all mostBytes (take (a .at + maskBytes - a .at) rest) (omega (arith, length-take (a .at + maskBytes - a .at) rest)))
@@ -24,9 +24,9 @@ returns c =
 small : (c : tie.After-number-in) → c .number-in .result < 256 ^ maskBytes
 small c =
     let s = c .before .before .before in
-    let rest = drop (s .args .at) (now (s .args .bytes)) in
+    let rest = drop (s .args .at) (now (s .args .body)) in
     let size : length (take maskBytes rest) ≡ maskBytes = length-take-le maskBytes rest (simp length-drop (omega (arith, s .pre))) in
-    let below = number-below (take maskBytes rest) (bytes-take maskBytes rest (bytes-drop (s .args .at) (now (s .args .bytes)) (λ i less. omega (arith, c .before .before .shared-slice-known .given i)))) in
+    let below = number-below (take maskBytes rest) (bytes-take maskBytes rest (bytes-drop (s .args .at) (now (s .args .body)) (λ i less. omega (arith, c .before .before .shared-slice-known .given i)))) in
     rw (returns c) (rw size at below)
 
 pub mask-at-spec : {M : Type 1} → statement M

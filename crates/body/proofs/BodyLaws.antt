@@ -1,15 +1,18 @@
--- The body of field 42, over the number of bytes of a mask: one mask more as it is written, each mask as it is read, and that reading and writing undo each other.
-use Prim.Native.Nat.{ℕ, zero, suc, _+_, _*_, _^_, _≤_, _<_}
+-- Masks in a body, over the number of bytes of a mask: one mask more as it is written, each mask as it is read, and that reading and writing undo each other.
+-- Then the arrays that are read off a body which is a part of some bytes.
+use Prim.Native.Nat.{ℕ, zero, suc, _+_, _*_, _/_, _^_, _≤_, _<_, min}
 use mathlib.Core.Path.{_≡_, refl, sym, ap, ap₂, _∙_}
 use mathlib.Core.List.{List, [], _∷_, _++_, append-nil, append-assoc}
 use native.Mathlib.Omega.{arith}
 use native.Mathlib.Nat.{suc-mul, zero-mul, add-comm}
 use native.Mathlib.Numerals.{add-one}
-use lib.ListN.{length, getD, take, drop, length-append, length-drop}
-use lib.Seq.{length-take-le, take-suc, take-at, drop-at, take-add, drop-drop}
+use lib.ListN.{length, getD, take, drop, length-append, length-take, length-drop}
+use lib.Seq.{length-take-le, take-suc, take-all, take-at, drop-at, take-add, drop-drop}
+use Rattle.outcome.specs.Padded.{padded}
+use Rattle.question.specs.Limits.{maxTerms}
 use Rattle.number.specs.Numbers.{AreBytes, bytesOf, numberIn}
 use Rattle.number.proofs.NumberLaws.{bytes-length, number-back, bytes-back, bytes-take, bytes-drop}
-use Rattle.answer.specs.Bodies.{masksBody, masksIn}
+use Rattle.body.specs.Bodies.{maskBytes, masksBody, masksIn, numbersOf, masksOf}
 
 module _ (w : ℕ) where
   pub body-none : [] ≡ masksBody w []
@@ -72,3 +75,24 @@ module _ (w : ℕ) where
       let first : bytesOf w (numberIn (take w bytes)) ≡ take w bytes = ap (λ i. bytesOf i (numberIn (take w bytes))) (sym size) ∙ bytes-back (take w bytes) (bytes-take w bytes are) in
       rw all
       (ap₂ (λ x y. x ++ y) first (body-in n (drop w bytes) (omega (arith, length-drop w bytes)) (bytes-drop w bytes are)) ∙ sym (take-add w (n * w) bytes))
+
+  -- no other bytes than theirs are looked at
+  pub in-part : (n : ℕ) (bytes : List ℕ) → n * w ≤ length bytes → masksIn w n (take (n * w) bytes) ≡ masksIn w n bytes
+  unfolding masksIn
+  in-part zero bytes h = refl
+  in-part (suc n) bytes h =
+      let all : suc n * w ≡ w + n * w = suc-mul n w ∙ add-comm (n * w) w in
+      let size : length (take w bytes) ≡ w = length-take-le w bytes (omega arith) in
+      let split : take (suc n * w) bytes ≡ take w bytes ++ take (n * w) (drop w bytes) = ap (λ i. take i bytes) all ∙ take-add w (n * w) bytes in
+      rw (split, take-at (take w bytes) (take (n * w) (drop w bytes)) w size, drop-at (take w bytes) (take (n * w) (drop w bytes)) w size)
+      (ap (λ l. numberIn (take w bytes) ∷ l) (in-part n (drop w bytes) (omega (arith, length-drop w bytes))))
+
+-- the arrays of a body that is a part of some bytes: n numbers, and n masks
+module _ (n : ℕ) (bytes : List ℕ) (few : n ≤ maxTerms) where
+  pub numbers-part : numbersOf (take n bytes) ≡ padded maxTerms (take n bytes)
+  numbers-part = ap (padded maxTerms) (take-all maxTerms (take n bytes) (omega (arith, length-take n bytes)))
+
+  pub masks-part : n * maskBytes ≤ length bytes → masksOf (take (n * maskBytes) bytes) ≡ padded maxTerms (masksIn maskBytes n bytes)
+  masks-part h =
+      let count : min maxTerms (length (take (n * maskBytes) bytes) / maskBytes) ≡ n = omega (arith, length-take-le (n * maskBytes) bytes h) in
+      rw count (ap (padded maxTerms) (in-part maskBytes n bytes h))

@@ -2,9 +2,9 @@
 use mathlib.Core.Path.{_≡_}
 use native.Mathlib.Omega.{arith}
 use lib.ListN.{length}
 use Rattle.question.proofs.StatementsLaws.{table-long, statements-length}
-use Rattle.reduction.proofs.reducing.statement_count.Statement.{statement}
-use Rattle.reduction.proofs.reducing.statement_count.Tie as tie
+use Rattle.question.proofs.checks.statement_count.Statement.{statement}
+use Rattle.question.proofs.checks.statement_count.Tie as tie
 
 returns : tie.Need-returns
 returns c =
