@@ -2,13 +2,14 @@
 use Prim.Native.Nat.{ℕ, _+_, _≤_, _<_}
 use mathlib.Core.Path.{_≡_}
 use mathlib.Core.Bool.{Bool, cond}
+use native.Mathlib.Omega.{arith}
 use native.Mathlib.Numerals.{add-one}
-use lib.ListN.{length, getD, drop}
+use lib.ListN.{length, getD, drop, drop-of-length-le}
 use Rattle.statement.specs.declared.statements.Statement.{Statement}
 use Rattle.question.specs.declared.questions.Record.{Record}
 use Rattle.question.specs.declared.questions.Question.{Question}
 use Rattle.question.specs.Questions.{statements}
-use Rattle.question.proofs.StatementsLaws.{statements-at, statements-end}
+use Rattle.question.proofs.StatementsLaws.{statements-length, statements-at}
 use Rattle.judge.specs.declared.judging.Judgement.{Judgement}
 use Rattle.judge.specs.declared.judging.Judgement.the-variants.{Yes, No}
 use Rattle.judge.specs.Judgements.{firstFailing}
@@ -18,10 +19,10 @@ module _ (f : Statement → Bool) (q : Question) where
   abbrev pub failingFrom : ℕ → Judgement
   failingFrom i = firstFailing f i (drop i (statements q))
 
-  pub failing-turn : (i : ℕ) (d : Record) → i < q .count → i < length (q .table) → failingFrom i ≡ cond (f (getD (q .table) i d .statement)) (failingFrom (i + 1)) (No i)
+  pub failing-turn : (i : ℕ) (d : Record) → i < length (statements q) → failingFrom i ≡ cond (f (getD (q .table) i d .statement)) (failingFrom (i + 1)) (No i)
   unfolding firstFailing
-  failing-turn i d below inside = rw (statements-at q i d below inside, add-one)
+  failing-turn i d below = let few = statements-length q in rw (statements-at q i d (omega arith) (omega arith), add-one)
 
-  pub failing-end : (i : ℕ) → q .count ≤ i → failingFrom i ≡ Yes
+  pub failing-end : (i : ℕ) → length (statements q) ≤ i → failingFrom i ≡ Yes
   unfolding firstFailing
-  failing-end i h = rw (statements-end q i h)
+  failing-end i h = rw (drop-of-length-le (statements q) {i = i} h)

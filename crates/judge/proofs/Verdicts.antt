@@ -1,6 +1,6 @@
 -- What a judgement means: yes exactly if question and model are sound and every statement holds; no exactly at the first statement that fails.
 use Prim.Native.Nat.{ℕ, zero, suc, _+_, _<_, zero-le}
-use mathlib.Core.Path.{_≡_, refl, sym, ap, subst}
+use mathlib.Core.Path.{_≡_, refl, sym, ap, subst, _∙_}
 use mathlib.Core.Bool.{Bool, true, false, _&&_, cond}
 use mathlib.Core.List.{List, [], _∷_}
 use mathlib.Core.Logic.{_↔_}
@@ -91,16 +91,33 @@ module _ (A : Assignment) where
       rw (f .earlier 0 (omega arith))
       (first-found (suc i) ss k j (omega arith) (record { within = omega (arith, f .within); fails = f .fails; earlier = λ h l. f .earlier (suc h) (omega arith) }))
 
+  -- where a statement fails not all hold, and only one is the first that fails
+  pub not-all : (ss : List Statement) (i : ℕ) → FirstToFail A ss i → AllHold A ss → ⊥
+  not-all ss i f h = no-yes (sym (first-found 0 ss i i (omega arith) f) ∙ hold-all 0 ss h)
+
+  pub first-one : (ss : List Statement) (i k : ℕ) → FirstToFail A ss i → FirstToFail A ss k → i ≡ k
+  first-one ss i k f g = let same : No i ≡ No k = sym (first-found 0 ss i i (omega arith) f) ∙ first-found 0 ss k k (omega arith) g in cc
+
+-- the walk over statements refuses nothing
+pub no-refusal : (f : Statement → Bool) (i : ℕ) (ss : List Statement) (r : Refusal) → firstFailing f i ss ≡ Refused r → ⊥
+unfolding firstFailing
+no-refusal f i [] r e = never cc
+no-refusal f i (s ∷ ss) r e = go (f s) e (no-refusal f (suc i) ss r)
+  where
+    go : (b : Bool) → cond b (firstFailing f (suc i) ss) (No i) ≡ Refused r → (firstFailing f (suc i) ss ≡ Refused r → ⊥) → ⊥
+    go true e k = k e
+    go false e k = never cc
+
 -- a model is an assignment
 pub model-assigns : (E S : ℕ) (m : Model) → isModel E S m ≡ true → IsAssignment E (assigned m)
 unfolding isModel elementsInside
 model-assigns E S m h = record { large-enough = zero-le; within = λ a l. ltb→lt _ _ (everywhere-at E (λ b. ltb (getD (m .elements) b 0) (m .size)) inside (a .0) l) }
   where
-    both : T (elementsInside E m && masksInside S m)
-    both = and-right (leb (m .size) maxTerms) (elementsInside E m && masksInside S m) (T-true h)
+    both : T (elementsInside E (m .size) (m .elements) && masksInside S (m .size) (m .masks))
+    both = and-right (leb (m .size) maxTerms) (elementsInside E (m .size) (m .elements) && masksInside S (m .size) (m .masks)) (T-true h)
 
     inside : T (everywhere E (λ b. ltb (getD (m .elements) b 0) (m .size)))
-    inside = and-left (elementsInside E m) (masksInside S m) both
+    inside = and-left (elementsInside E (m .size) (m .elements)) (masksInside S (m .size) (m .masks)) both
 
 module _ (q : Question) (m : Model) where
   -- the question is accepted, the model is one for its names, and every statement holds

@@ -14,12 +14,16 @@ use Rattle.judge.specs.declared.judging.Judgement.{Judgement}
 use Rattle.judge.specs.declared.judging.Judgement.the-variants.{Yes, No, Refused}
 use Rattle.judge.specs.Models.{assigned, isModel}
 
+-- document 02's number for yes, beside the index of the first statement that fails: every index is below it
+abbrev pub allHold : ℕ
+allHold = 64
+
 -- yes if f holds of every statement, else the index of the first of which it does not; the first statement has the index i
 unfoldable pub firstFailing : (Statement → Bool) → ℕ → List Statement → Judgement
 firstFailing f i [] = Yes
 firstFailing f i (s ∷ ss) = cond (f s) (firstFailing f (suc i) ss) (No i)
 
--- the judgement of an accepted question: 11 at place 0 for a bad model, then statement by statement
+-- the judgement of a table as it stands: 11 at place 0 for a bad model, then statement by statement
 unfoldable pub modelJudged : Question → Model → Judgement
 modelJudged q m = cond (isModel (q .elements) (q .sets) m) (firstFailing (holds (assigned m)) 0 (statements q)) (Refused (refusal badModel 0))
 

@@ -6,4 +6,5 @@ mod models;
 
 pub use judging::Judgement;
 pub use judging::judge;
+pub use judging::judge_model;
 pub use models::Model;

@@ -1,5 +1,6 @@
 // A model: a domain of n elements, the element of each element name, and for each domain element the mask of the sets it is in.
-// Elements past the names and masks past the domain are ignored.
+// Elements past the names and masks past the domain are ignored. There is room for an element of each term, as in an arrangement,
+// whose class numbers then are elements as they stand: the names come first among the terms.
 use question::Question;
 use statement::ElementName;
 use statement::SetName;
@@ -8,41 +9,38 @@ ghost use Prim.Native.Nat.{_^_};
 ghost use lib.Dec.{ltb};
 ghost use lib.ListN.{getD};
 ghost use Rattle.question.specs.Masks.{bit};
-ghost use Rattle.judge.specs.Models.{assigned, elementsInside, masksInside, isModel};
-
-// How many element names there can be.
-const NAMES: usize = Question::MAX_ELEMENTS as usize;
+ghost use Rattle.judge.specs.Models.{elementsInside, masksInside, isModel};
 
 pub struct Model {
     pub size: usize,
-    pub elements: [u8; NAMES],
+    pub elements: [u8; Question::MAX_TERMS],
     pub masks: [u32; Question::MAX_TERMS],
 }
 
-// The domain element of a name; names past the table have element 0.
-pub(crate) fn element(m: Model, a: ElementName) -> usize
-    ensures { λ r. ⌜ r ≡ assigned m .element a ⌝ }
+// The domain element of a name; names past the elements have element 0.
+pub(crate) fn element(elements: &[u8], a: ElementName) -> usize
+    ensures { λ r. ⌜ r ≡ getD (now (elements .entry)) (a .0) 0 ⌝ }
 {
     let i = a.0 as usize;
-    if i < NAMES {
-        let d = m.elements[i];
+    if i < elements.len() {
+        let d = elements[i];
         return d as usize;
     }
     0
 }
 
-// The mask of a domain element; elements past the table are in no set.
-fn mask(m: Model, d: usize) -> u32
-    ensures { λ r. ⌜ r ≡ getD (m .masks) d 0 ⌝ }
+// The mask of a domain element; elements past the masks are in no set.
+pub(crate) fn mask(masks: &[u32], d: usize) -> u32
+    ensures { λ r. ⌜ r ≡ getD (now (masks .entry)) d 0 ⌝ }
 {
-    if d < Question::MAX_TERMS {
-        return m.masks[d];
+    if d < masks.len() {
+        return masks[d];
     }
     0
 }
 
 // Is bit x of a mask set.
-fn has(mask: u32, x: SetName) -> bool
+pub(crate) fn has(mask: u32, x: SetName) -> bool
     ensures { λ r. ⌜ r ≡ bit mask (x .0) ⌝ }
 {
     let i = x.0 as u32;
@@ -50,13 +48,6 @@ fn has(mask: u32, x: SetName) -> bool
         return (mask >> i) % 2 == 1;
     }
     false
-}
-
-// Is the domain element d in the set x.
-pub(crate) fn is_in(m: Model, x: SetName, d: usize) -> bool
-    ensures { λ r. ⌜ r ≡ assigned m .part x d ⌝ }
-{
-    has(mask(m, d), x)
 }
 
 // Has a mask no bit at or above the number of sets.
@@ -70,13 +61,13 @@ fn below(mask: u32, sets: u8) -> bool
     true
 }
 
-fn elements_inside(m: Model, names: u8) -> bool
-    ensures { λ r. ⌜ r ≡ elementsInside names m ⌝ }
+// One look at each element name.
+fn elements_inside(n: usize, elements: &[u8], names: u8) -> bool
+    ensures { λ r. ⌜ r ≡ elementsInside names n (now (elements .entry)) ⌝ }
 {
-    let n = m.size;
     let mut a: u8 = 0;
     while a < names {
-        let d = element(m, ElementName(a));
+        let d = element(elements, ElementName(a));
         if n <= d {
             return false;
         }
@@ -85,13 +76,13 @@ fn elements_inside(m: Model, names: u8) -> bool
     true
 }
 
-fn masks_inside(m: Model, sets: u8) -> bool
-    ensures { λ r. ⌜ r ≡ masksInside sets m ⌝ }
+// One look at the mask of each domain element, and at none past them.
+fn masks_inside(n: usize, masks: &[u32], sets: u8) -> bool
+    ensures { λ r. ⌜ r ≡ masksInside sets n (now (masks .entry)) ⌝ }
 {
-    let n = m.size;
     let mut d: usize = 0;
     while d < n {
-        if !below(mask(m, d), sets) {
+        if !below(mask(masks, d), sets) {
             return false;
         }
         d += 1;
@@ -103,11 +94,12 @@ fn masks_inside(m: Model, sets: u8) -> bool
 pub(crate) fn is_model(m: Model, elements: u8, sets: u8) -> bool
     ensures { λ r. ⌜ r ≡ isModel elements sets m ⌝ }
 {
-    if Question::MAX_TERMS < m.size {
+    let n = m.size;
+    if Question::MAX_TERMS < n {
         return false;
     }
-    if !elements_inside(m, elements) {
+    if !elements_inside(n, &m.elements, elements) {
         return false;
     }
-    masks_inside(m, sets)
+    masks_inside(n, &m.masks, sets)
 }

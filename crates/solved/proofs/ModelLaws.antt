@@ -3,21 +3,18 @@ use Prim.Native.Nat.{ℕ, suc, _+_, _-_, _^_, _≤_, _<_}
 use mathlib.Core.Path.{_≡_, refl, sym, ap, _∙_}
 use mathlib.Core.Bool.{Bool, true, false, cond}
 use mathlib.Core.Option.{Option, none, some}
-use mathlib.Core.List.{List, append-nil}
-use lib.ListN.{length, take, List·getD-eq-default}
+use mathlib.Core.List.{List}
+use lib.ListN.{length, List·getD-eq-default}
 use Rattle.lines.specs.declared.readings.Value.{Value}
 use Rattle.lines.specs.Values.{unsaid, isTrue, truthOf}
 use native.Mathlib.Omega.{arith}
 use native.Mathlib.Numerals.{add-one}
 use native.Mathlib.Nat.{pow-le-pow-right}
-use Rattle.outcome.specs.Padded.{padded}
-use Rattle.question.specs.Limits.{maxElements, maxSets}
+use Rattle.question.specs.Limits.{maxSets}
 use Rattle.theory.specs.Searches.{firstFrom, firstPassing}
 use Rattle.clauses.specs.Variables.{pairVariable, inVariable}
 use Rattle.clauses.specs.Meaning.{Truth}
 use Rattle.clauses.specs.Models.{maskUpTo, joinedTo}
-use Rattle.solved.specs.declared.models.SaidModel.{SaidModel}
-use Rattle.solved.specs.Said.{shownAs}
 
 -- past the table nothing is said to be true
 pub true-past : (t : List Value) (v : ℕ) → length t ≤ v → truthOf t v ≡ false
@@ -77,12 +74,3 @@ module _ (terms : ℕ) (truth : Truth) (d : ℕ) where
 
     pub joined-miss : truth (pairVariable terms 0 (c - 1) d) ≡ false → joinedFrom (c - 1) ≡ joinedFrom c
     joined-miss e = lower ∙ ap (λ b. next b (joinedFrom c)) e
-
--- a list as long as its array fills it
-pub padded-whole : (n : ℕ) (l : List ℕ) → length l ≡ n → padded n l ≡ l
-padded-whole n l e = let z : n - length l ≡ 0 = omega arith in rw z (append-nil l)
-
--- the model for the judge, where its elements are known by an equation
-pub shown-elements : {elements : List ℕ} (m : SaidModel) → elements ≡ take maxElements (m .arrangement) → record { size = m .classes; elements = elements; masks = m .masks } ≡ shownAs m
-unfolding shownAs
-shown-elements m e = rw e

@@ -3,9 +3,9 @@ use Prim.Native.Nat.{ℕ}
 use mathlib.Core.Bool.{Bool, cond}
 use mathlib.Core.List.{List}
 use mathlib.Core.Option.{Option, none, some}
-use lib.ListN.{getD, take}
+use lib.ListN.{getD}
 use Rattle.outcome.specs.Padded.{padded}
-use Rattle.question.specs.Limits.{maxElements, maxTerms}
+use Rattle.question.specs.Limits.{maxTerms}
 use Rattle.theory.specs.Arrangements.{classes}
 use Rattle.theory.specs.Solutions.{Solution}
 use Rattle.question.specs.declared.questions.Question.{Question}
@@ -27,9 +27,9 @@ classBy numbers used (some c) = getD numbers c 0
 unfoldable pub saidAs : Solution → SaidModel
 saidAs sol = record { classes = classes (sol .arrangement); arrangement = padded maxTerms (sol .arrangement); masks = padded maxTerms (sol .masks) }
 
--- as a model for the judge: the class of each element name
+-- as a model for the judge: the element of a term is its class
 unfoldable pub shownAs : SaidModel → Model
-shownAs m = record { size = m .classes; elements = take maxElements (m .arrangement); masks = m .masks }
+shownAs m = record { size = m .classes; elements = m .arrangement; masks = m .masks }
 
 -- as an answer, which always says possible
 abbrev pub answerAs : SaidModel → Answer

@@ -102,24 +102,16 @@ pub(crate) fn model_said(said: Reading, terms: u8, sets: u8) -> SaidModel
     m
 }
 
-// How many element names there can be.
-const NAMES: usize = Question::MAX_ELEMENTS as usize;
-
-// The model for the judge: the class of each element name, which comes before the witnesses.
+// The model for the judge: the element of a term is its class, and the element names come before the witnesses.
 pub(crate) fn show(m: SaidModel) -> Model
     ensures { λ r. ⌜ r ≡ shownAs m ⌝ }
 {
-    let mut elements: [u8; NAMES] = [0; NAMES];
-    let mut i: usize = 0;
-    while i < NAMES {
-        elements[i] = m.arrangement[i];
-        i += 1;
-    }
     let classes = m.classes;
+    let arrangement = m.arrangement;
     let masks = m.masks;
     Model {
         size: classes as usize,
-        elements: elements,
+        elements: arrangement,
         masks: masks,
     }
 }

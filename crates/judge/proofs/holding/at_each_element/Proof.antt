@@ -7,21 +7,21 @@ use borrow.Author.Needs.{needs}
 use borrow.Author.Tests.{not-true, not-false}
 use Rattle.statement.specs.Meaning.{everywhere}
 use Rattle.statement.proofs.EverywhereLaws.{walk-none, walk-more, walk-ends, walk-fails}
-use Rattle.judge.specs.Models.{assigned}
+use Rattle.judge.specs.Models.{assignedBy}
 use Rattle.judge.specs.Elements.{atElement}
 use Rattle.judge.proofs.holding.at_each_element.Statement.{statement}
 use Rattle.judge.proofs.holding.at_each_element.Tie as tie
 
 abbrev Inv-loop : tie.InvT-loop
-Inv-loop m s n d₀ d = (d ≤ n) × (everywhere d (atElement (assigned m) s) ≡ true)
+Inv-loop n elements masks s d₀ d = (d ≤ n) × (everywhere d (atElement (assignedBy n elements masks) s) ≡ true)
 
 abbrev μ-loop : tie.MeasureT-loop
-μ-loop m s n d₀ d = n - d
+μ-loop n elements masks s d₀ d = n - d
 
 returns : tie.Need-returns Inv-loop μ-loop
 returns c =
     let l = c .before .before .before in
-    sym (walk-fails _ (l .before .args .m .size) (l .loop .d) (c .before .before .loop-test .taken) (sym (c .before .at-element .ensures) ∙ not-true _ (c .if1 .taken)))
+    sym (walk-fails _ (l .before .before .before .args .n) (l .loop .d) (c .before .before .loop-test .taken) (sym (c .before .at-element .ensures) ∙ not-true _ (c .if1 .taken)))
 
 loop-again : tie.Need-loop-again Inv-loop μ-loop
 loop-again c =
@@ -31,7 +31,7 @@ loop-again c =
 returns-2 : tie.Need-returns-2 Inv-loop μ-loop
 returns-2 c =
     let l = c .before in
-    sym (walk-ends _ (l .before .args .m .size) (l .loop .d) (l .loop .inv .0) (c .loop-test .left) (l .loop .inv .1))
+    sym (walk-ends _ (l .before .before .before .args .n) (l .loop .d) (l .loop .inv .0) (c .loop-test .left) (l .loop .inv .1))
 
 pub at-each-element-spec : {M : Type 1} → statement M
 at-each-element-spec =

@@ -12,10 +12,10 @@ returns-2 : tie.Need-returns-2
 returns-2 c = rw (c .before .before .before .s2 .given .1, c .before .element3 .ensures, c .element4 .ensures)
 
 returns-3 : tie.Need-returns-3
-returns-3 c = rw (c .before .before .before .s3 .given .1, c .is-in .ensures, c .before .element5 .ensures)
+returns-3 c = rw (c .before .before .before .before .s3 .given .1, c .has .ensures, c .before .mask .ensures, c .before .before .element5 .ensures)
 
 returns-4 : tie.Need-returns-4
-returns-4 c = rw (c .before .before .before .s4 .given .1, c .is-in2 .ensures, c .before .element6 .ensures)
+returns-4 c = rw (c .before .before .before .before .s4 .given .1, c .has2 .ensures, c .before .mask2 .ensures, c .before .before .element6 .ensures)
 
 returns-5 : tie.Need-returns-5
 returns-5 c = rw (c .before .enum-told .given .1) (ap not (rw (c .before .enum-told .given .1) at (c .at-each-element .ensures)))
@@ -44,8 +44,8 @@ does-hold-spec =
     (tie.spec
     (λ c. search needs) (λ c κs. search needs) (λ c κs. search needs)
     (λ c. search needs) (λ c κs. search needs) (λ c κs. search needs)
-    (λ c. search needs) (λ c κs. search needs) (λ c κs. search needs)
-    (λ c. search needs) (λ c κs. search needs) (λ c κs. search needs)
+    (λ c. search needs) (λ c κs. search needs) (λ c κs. search needs) (λ c κs. search needs)
+    (λ c. search needs) (λ c κs. search needs) (λ c κs. search needs) (λ c κs. search needs)
     (λ c. search needs) (λ c κs. search needs)
     (λ c. search needs) (λ c κs. search needs)
     (λ c. search needs) (λ c κs. search needs)

@@ -1,13 +1,9 @@
 -- `judge` passes the table's refusal on, and else judges the model: in each arm the result of the check is known.
 use mathlib.Core.Path.{sym, _∙_}
 use borrow.Author.Needs.{needs}
-use Rattle.question.proofs.AcceptedLaws.{accepted}
 use Rattle.judge.specs.Judgements.{judged}
 use Rattle.judge.proofs.judging.judge.Statement.{statement}
 use Rattle.judge.proofs.judging.judge.Tie as tie
-
-judge-model-requires : tie.Need-judge-model-requires
-judge-model-requires c κs = accepted (c .before .before .before .args .q) .0 (sym (c .before .before .check .ensures) ∙ c .enum-told .given .1) .few-statements
 
 returns : tie.Need-returns
 unfolding judged
@@ -18,4 +14,4 @@ unfolding judged
 returns-2 c = rw (sym (c .before .before .before .check .ensures) ∙ c .before .enum-told .given .1) (c .judge-model .ensures)
 
 pub judge-spec : {M : Type 1} → statement M
-judge-spec = tie.close (tie.spec (λ c κs. search needs) (λ c. search needs) (λ c. search needs) judge-model-requires returns returns-2)
+judge-spec = tie.close (tie.spec (λ c κs. search needs) (λ c. search needs) (λ c. search needs) (λ c κs. search needs) returns returns-2)

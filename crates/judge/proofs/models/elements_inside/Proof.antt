@@ -14,16 +14,16 @@ use Rattle.judge.proofs.models.elements_inside.Statement.{statement}
 use Rattle.judge.proofs.models.elements_inside.Tie as tie
 
 abbrev Inv-loop : tie.InvT-loop
-Inv-loop m names n a₀ a = (a ≤ names) × (everywhere a (λ b. ltb (getD (m .elements) b 0) n) ≡ true)
+Inv-loop n elements names a₀ a = (a ≤ names) × (everywhere a (λ b. ltb (getD elements b 0) n) ≡ true)
 
 abbrev μ-loop : tie.MeasureT-loop
-μ-loop m names n a₀ a = names - a
+μ-loop n elements names a₀ a = names - a
 
 returns : tie.Need-returns Inv-loop μ-loop
 unfolding elementsInside
 returns c =
     let l = c .before .before .before in
-    sym (walk-fails _ (l .before .args .names) (l .loop .a) (c .before .before .loop-test .taken) (le-ltb _ _ (rw (c .before .element .ensures) at (c .if1 .taken))))
+    sym (walk-fails _ (l .before .before .args .names) (l .loop .a) (c .before .before .loop-test .taken) (le-ltb _ _ (rw (c .before .element .ensures) at (c .if1 .taken))))
 
 loop-again : tie.Need-loop-again Inv-loop μ-loop
 loop-again c =
@@ -34,7 +34,7 @@ returns-2 : tie.Need-returns-2 Inv-loop μ-loop
 unfolding elementsInside
 returns-2 c =
     let l = c .before in
-    sym (walk-ends _ (l .before .args .names) (l .loop .a) (l .loop .inv .0) (c .loop-test .left) (l .loop .inv .1))
+    sym (walk-ends _ (l .before .before .args .names) (l .loop .a) (l .loop .inv .0) (c .loop-test .left) (l .loop .inv .1))
 
 pub elements-inside-spec : {M : Type 1} → statement M
 elements-inside-spec =

@@ -1,5 +1,6 @@
 -- `masks_inside` tests the mask of each domain element in turn: all that were passed are below the bound, and the first that is not decides.
 use Prim.Native.Nat.{_-_, _^_, _≤_}
+use denote.Ref.{now}
 use mathlib.Core.Path.{_≡_, sym, ap, _∙_}
 use mathlib.Core.Bool.{true}
 use native.Mathlib.Omega.{arith}
@@ -14,21 +15,21 @@ use Rattle.judge.proofs.models.masks_inside.Statement.{statement}
 use Rattle.judge.proofs.models.masks_inside.Tie as tie
 
 abbrev Inv-loop : tie.InvT-loop
-Inv-loop m sets n d₀ d = (d ≤ n) × (everywhere d (λ e. ltb (getD (m .masks) e 0) (2 ^ sets)) ≡ true)
+Inv-loop n masks sets d₀ d = (d ≤ n) × (everywhere d (λ e. ltb (getD masks e 0) (2 ^ sets)) ≡ true)
 
 abbrev μ-loop : tie.MeasureT-loop
-μ-loop m sets n d₀ d = n - d
+μ-loop n masks sets d₀ d = n - d
 
 -- the test at a turn is that of the element's mask
 tested : (c : tie.After-below Inv-loop μ-loop) → let l = c .before .before .before in
-    ltb (getD (l .before .args .m .masks) (l .loop .d) 0) (2 ^ l .before .args .sets) ≡ c .below .result
-tested c = sym (c .below .ensures ∙ ap (λ k. ltb k (2 ^ c .before .before .before .before .args .sets)) (c .before .mask .ensures))
+    ltb (getD (now (l .before .before .args .masks)) (l .loop .d) 0) (2 ^ l .before .before .args .sets) ≡ c .below .result
+tested c = sym (c .below .ensures ∙ ap (λ k. ltb k (2 ^ c .before .before .before .before .before .args .sets)) (c .before .mask .ensures))
 
 returns : tie.Need-returns Inv-loop μ-loop
 unfolding masksInside
 returns c =
     let l = c .before .before .before .before in
-    sym (walk-fails _ (l .before .args .m .size) (l .loop .d) (c .before .before .before .loop-test .taken) (tested (c .before) ∙ not-true _ (c .if1 .taken)))
+    sym (walk-fails _ (l .before .before .args .n) (l .loop .d) (c .before .before .before .loop-test .taken) (tested (c .before) ∙ not-true _ (c .if1 .taken)))
 
 loop-again : tie.Need-loop-again Inv-loop μ-loop
 loop-again c =
@@ -39,7 +40,7 @@ returns-2 : tie.Need-returns-2 Inv-loop μ-loop
 unfolding masksInside
 returns-2 c =
     let l = c .before in
-    sym (walk-ends _ (l .before .args .m .size) (l .loop .d) (l .loop .inv .0) (c .loop-test .left) (l .loop .inv .1))
+    sym (walk-ends _ (l .before .before .args .n) (l .loop .d) (l .loop .inv .0) (c .loop-test .left) (l .loop .inv .1))
 
 pub masks-inside-spec : {M : Type 1} → statement M
 masks-inside-spec =
