@@ -7,16 +7,18 @@
  * format, docs/C.md a guide, and examples/ two programs. Of an impossible question, the clashing part
  * can be had: statements that can't all hold, of which none can be left out. For an outside solver, a
  * question can be had as clauses in DIMACS form, and the lines that the solver prints can be read back.
+ * A model from whatever maker can be judged: which statement of a question is the first to fail in it.
  *
- * For all five functions:
+ * For all six functions:
  * - They are total: any bytes of any length may be handed in. What is wrong is refused by a number.
  * - They allocate nothing, keep no state and write nothing but what is said below. Several threads
  *   may call them at the same time, with buffers of their own.
- * - A call needs at most 32 KiB of stack, whatever the question (measured: 32,240 bytes).
- * - A slice is a pointer and the length behind it: the question and a solver's lines, which are read,
- *   or a buffer, which is lent to be written. A pointer must not be null, and the bytes of its slice must
- *   be there: in the question and the lines as many that can be read, and in each buffer as many that
- *   can be written, as its length says. A length may be 0; the pointer must not be null even then.
+ * - A call needs at most 32 KiB of stack, whatever the question (measured: 32,240 bytes);
+ *   sayfudhoum_judge needs at most 2 KiB (measured: 1,440 bytes).
+ * - A slice is a pointer and the length behind it: the question, a solver's lines and a model, which are
+ *   read, or a buffer, which is lent to be written. A pointer must not be null, and the bytes of its slice
+ *   must be there: in what is read as many that can be read, and in each buffer as many that can be
+ *   written, as its length says. A length may be 0; the pointer must not be null even then.
  * - No two slices may overlap, and nobody else may write to any of them during the call.
  *
  * The library is for x86-64 Linux, and links with no other library. C99 or C++11.
@@ -45,6 +47,12 @@ extern "C" {
 #define SAYFUDHOUM_MAX_QUESTION_LENGTH 392
 #define SAYFUDHOUM_MAX_ANSWER_LENGTH 49
 #define SAYFUDHOUM_MAX_CLAUSES_LENGTH 86307
+
+/* The longest model that can be good: its size, an element for each name, and two bytes for each of its elements. */
+#define SAYFUDHOUM_MAX_MODEL_LENGTH 33
+
+/* The rest of what sayfudhoum_judge gives where all statements hold; every index of a statement is below it. */
+#define SAYFUDHOUM_ALL_HOLD 64
 
 /*
  * Tags. A field is its tag, the length of its body in two bytes with the high byte first, and the
@@ -75,7 +83,8 @@ extern "C" {
  * byte, counted from 0 (for 1 where no byte is left, the length of the data), for 9 that of the first
  * extra byte, for 10 it is 0. A solver's lines are read after the question: then come 13, 14 and, always
  * last, 10. For 13 the place is where in the lines the first line begins that can't stand there, or their
- * length if more lines were due; for 14 it is 0.
+ * length if more lines were due; for 14 it is 0. A model is looked at after the question: then comes 11,
+ * with the place 0.
  */
 #define SAYFUDHOUM_DATA_ENDS 1           /* the data ends within a field or before the end field */
 #define SAYFUDHOUM_TAG_UNKNOWN 2         /* a question file doesn't know the tag */
@@ -87,9 +96,10 @@ extern "C" {
 #define SAYFUDHOUM_TOO_MANY_TERMS 8      /* this statement x != y would make T more than 12 */
 #define SAYFUDHOUM_BYTES_AFTER_END 9     /* bytes follow the end field */
 #define SAYFUDHOUM_BUFFER_TOO_SHORT 10   /* a buffer is shorter than what this very call has to write */
-/* The next two are the project's, but no function below ever gives them. */
-#define SAYFUDHOUM_BAD_MODEL 11 /* a bad model or answer was handed in */
-#define SAYFUDHOUM_BAD_ROW 12   /* a bad row was handed in */
+/* The next comes from sayfudhoum_judge alone. */
+#define SAYFUDHOUM_BAD_MODEL 11 /* a bad model was handed in */
+/* The next is the project's, but no function below ever gives it. */
+#define SAYFUDHOUM_BAD_ROW 12 /* a bad row was handed in */
 /* The last two come from sayfudhoum_solved alone. */
 #define SAYFUDHOUM_BAD_LINES 13   /* the solver's lines are not of the form that is read */
 #define SAYFUDHOUM_MODEL_FAILS 14 /* the model that the lines say fails a statement of the question */
@@ -216,10 +226,36 @@ uint64_t sayfudhoum_solved(const uint8_t *question, size_t question_length,
                            const uint8_t *lines, size_t lines_length,
                            uint8_t *answer, size_t answer_length);
 
+/*
+ * Judges the model in model[0 .. model_length - 1] by the question in question[0 .. question_length - 1]:
+ * each statement in order, whoever made the model. Nothing is decided here, and nothing is written.
+ *   A model is its size n in one byte; then for each of the E element names one byte, its element, below n;
+ *   then for each of the n elements two bytes, high byte first, its mask: bit x is set if the element is in
+ *   set x. So it has 1 + E + 2n bytes. Two names may have one element, and an element need have no name.
+ *   With n = 0, which is good only where E = 0, there is no element: a statement x != y fails, and every other
+ *   holds. The model of a possible answer is the number of its classes, its first E class numbers, and the
+ *   body of its field 42 as it stands.
+ *
+ * Result: one number; take it apart by sayfudhoum_refusal and sayfudhoum_rest.
+ *   lowest byte 0, rest SAYFUDHOUM_ALL_HOLD, 64: the model is an assignment, and every statement holds in it.
+ *     So the question is possible.
+ *   lowest byte 0, rest below 64: the index of the first statement that fails, counted from 0: those before
+ *     it hold, and it does not. Another model may still do.
+ *   lowest byte 1 to 9: the question is refused by this number, at the place that is the rest; the
+ *     same as sayfudhoum_answer would give. The model was not looked at.
+ *   lowest byte 11: the model is bad. Its length is not that of its n (an empty one has no n), n is above
+ *     12, an element is not below n, or a mask has a bit at or above S. The rest is 0.
+ *
+ * The question and the model are only read, and nothing outside the two slices is touched. No list of any set
+ * is kept, and a statement takes at most one look at each element of the model.
+ */
+uint64_t sayfudhoum_judge(const uint8_t *question, size_t question_length,
+                          const uint8_t *model, size_t model_length);
+
 /* The refusal number in a result, or 0 if nothing was refused. */
 static inline unsigned sayfudhoum_refusal(uint64_t result) { return result & 0xFF; }
 
-/* The rest of a result: the place if refused, else the count of bytes written, the verdict, or three counts. */
+/* The rest of a result: the place if refused, else a count of bytes, the verdict, three counts, or an index. */
 static inline size_t sayfudhoum_rest(uint64_t result) { return result >> 8; }
 
 /* Of a result of sayfudhoum_clash that is not refused: the bytes of the part, the indexes, the bytes of the answer. */

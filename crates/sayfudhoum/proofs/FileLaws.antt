@@ -31,7 +31,7 @@ use Rattle.outcome.specs.Checks.{acceptedThen}
 use Rattle.answer.specs.Answers.{asAnswer}
 use Rattle.decision.specs.Decisions.{undecided, decidedAs, decided}
 use Rattle.sayfudhoum.specs.Files.{answerIn, fileDecided, answered, answeredOver, reportBytes, response, responded, respondedOver}
-use Rattle.sayfudhoum.specs.Numbers.{IsSmall, IsShort, IsFew, IsBrief}
+use Rattle.sayfudhoum.specs.Numbers.{IsSmall, IsShort, IsFew, IsBrief, IsIndexed}
 use Rattle.question.specs.Checks.{IsAccepted}
 use Rattle.question.proofs.AcceptedLaws.{accepted as isAccepted}
 use Rattle.question_file.specs.Bytes.{questionBytes}
@@ -49,6 +49,11 @@ use Rattle.clash.specs.Clashes.{clashing, partOf}
 use Rattle.clash.specs.Files.{Three, anyShort, threeWritten, clashBytes, clashWritten}
 use Rattle.clash.proofs.PartLaws.{part-accepted, part-checked, part-count}
 use Rattle.decision.proofs.DecisionLaws.{decided-accepted}
+use Rattle.judge.specs.declared.judging.Judgement.{Judgement}
+use Rattle.judge.specs.declared.judging.Judgement.the-variants.{Yes, No, Refused as NotJudged}
+use Rattle.model_file.specs.Judges.{bytesJudged, fileJudged}
+use Rattle.model_file.proofs.JudgeLaws.{file-refused as judge-refused, file-accepted as judge-accepted}
+use Rattle.model_file.proofs.Verdicts.{Judging, bad-model, fails-at, all-hold, judging, index-below}
 use Rattle.decision.proofs.AnsweredLaws.{file-short}
 
 -- what was read of some bytes
@@ -172,6 +177,24 @@ module _ (bytes : List ℕ) where
       go : (o : Check) → readQuestion bytes .outcome ≡ o → IsBrief (fileSolved bytes lines (length old))
       go Accepted p = brief (fileSolved bytes lines (length old)) (λ n e. solved-short (readQuestion bytes .question) lines old n (sym (file-as-question bytes lines old p .0) ∙ e))
       go (Refused r) p = rw (solved-refused bytes lines old {read = readQuestion bytes} refl p .0) tt
+
+  -- and the bytes of a model
+  pub judged-indexed : (model : List ℕ) → IsIndexed (fileJudged bytes model)
+  judged-indexed model = go (readQuestion bytes .outcome) refl
+    where
+      q : Question
+      q = readQuestion bytes .question
+
+      indexed : (j : Judgement) → IsAccepted q → Judging q model j → IsIndexed j
+      indexed (NotJudged r) is (bad-model g) = omega arith
+      indexed (No i) is (fails-at _ g f) = index-below q is model i f
+      indexed Yes is (all-hold g h) = tt
+
+      go : (o : Check) → readQuestion bytes .outcome ≡ o → IsIndexed (fileJudged bytes model)
+      go Accepted p =
+          let is = isAccepted q .0 (read-checked bytes p) in
+          subst IsIndexed (sym (judge-accepted bytes model {read = readQuestion bytes} refl p)) (indexed (bytesJudged q model) is (judging q is model))
+      go (Refused r) p = subst IsIndexed (sym (judge-refused bytes model {read = readQuestion bytes} refl p)) (refusal-told bytes r p .1)
 
 -- the program's output lies in its buffer
 pub response-within : (bytes old new : List ℕ) (n : ℕ) → responded bytes (length old) ≡ Count n → new ≡ respondedOver bytes old → n ≤ length new

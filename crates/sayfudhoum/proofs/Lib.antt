@@ -9,5 +9,6 @@ pub mod ClashEnds
 pub mod ClausesEnds
 pub mod SolvedEnds
 pub mod SolvedExactly
+pub mod JudgeEnds
 pub mod Program
 pub mod OneOutcomeLaws

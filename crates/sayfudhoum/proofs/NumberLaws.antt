@@ -1,5 +1,5 @@
 -- The number of an outcome, by its case.
-use Prim.Native.Nat.{ℕ, _≤_}
+use Prim.Native.Nat.{ℕ, _≤_, _<_}
 use mathlib.Core.Path.{_≡_, subst}
 use native.Mathlib.Omega.{arith}
 use Rattle.outcome.specs.declared.refusals.Refusal.{Refusal}
@@ -15,7 +15,9 @@ use Rattle.clash.specs.declared.files.ClashWritten.the-variants.{Counts, Refuse
 use Rattle.question.specs.Limits.{maxStatements}
 use Rattle.solved.specs.declared.answers.Solved.{Solved}
 use Rattle.solved.specs.declared.answers.Solved.the-variants.{Answered}
-use Rattle.sayfudhoum.specs.Numbers.{maxPlace, maxCount, IsSmall, IsShort, IsFew, IsBrief}
+use Rattle.judge.specs.declared.judging.Judgement.{Judgement}
+use Rattle.judge.specs.declared.judging.Judgement.the-variants.{No, Refused as NotJudged}
+use Rattle.sayfudhoum.specs.Numbers.{maxPlace, maxCount, IsSmall, IsShort, IsFew, IsBrief, IsIndexed}
 
 module _ (w : Written) where
   pub written-count : (n : ℕ) → w ≡ Count n → IsShort w → n ≤ maxCount
@@ -37,6 +39,13 @@ module _ (w : ClashWritten) where
 
 pub solved-count : (w : Solved) (n : ℕ) → w ≡ Answered n → IsBrief w → n ≤ maxPlace
 solved-count w n e h = subst IsBrief e h
+
+module _ (j : Judgement) where
+  pub judgement-index : (i : ℕ) → j ≡ No i → IsIndexed j → i < maxStatements
+  judgement-index i e h = subst IsIndexed e h
+
+  pub judgement-place : (r : Refusal) → j ≡ NotJudged r → IsIndexed j → r .place ≤ maxPlace
+  judgement-place r e h = subst IsIndexed e h
 
 -- a verdict is one bit
 pub verdict-small : (v : Verdict) → verdictByte v ≤ 1

@@ -11,6 +11,7 @@ use Rattle.sayfudhoum.proofs.exports.sayfudhoum_verdict.Reads as sayfud
 use Rattle.sayfudhoum.proofs.exports.sayfudhoum_clash.Reads as sayfudhoum-clash
 use Rattle.sayfudhoum.proofs.exports.sayfudhoum_clauses.Reads as sayfudhoum-clauses
 use Rattle.sayfudhoum.proofs.exports.sayfudhoum_solved.Reads as sayfudhoum-solved
+use Rattle.sayfudhoum.proofs.exports.sayfudhoum_judge.Reads as sayfudhoum-judge
 use Rattle.clash.specs.Files.{three}
 
 decide-file-one : OneResult decide-file.Learnt
@@ -36,3 +37,6 @@ sayfudhoum-clauses-one κs given x y s t p q = (both (p .0) (q .0), both (p .1) 
 
 sayfudhoum-solved-one : OneOutcome sayfudhoum-solved.Learnt (λ κs s. now (s .1 .1 .0))
 sayfudhoum-solved-one κs given x y s t p q = (both (p .0) (q .0), both (p .1) (q .1))
+
+sayfudhoum-judge-one : OneResult sayfudhoum-judge.Learnt
+sayfudhoum-judge-one κs given x y s t = both

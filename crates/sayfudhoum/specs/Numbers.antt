@@ -1,5 +1,5 @@
--- The one number that a call for C gives back: its lowest byte is the refusal number, or 0; the rest is the place, the count of bytes, the three counts of a clash, or the verdict.
-use Prim.Native.Nat.{ℕ, _+_, _*_, _%_, _^_, _≤_}
+-- The one number that a call for C gives back: its lowest byte is the refusal number, or 0; the rest is the place, the count of bytes, the three counts of a clash, the verdict, or the index of a statement.
+use Prim.Native.Nat.{ℕ, _+_, _*_, _%_, _^_, _≤_, _<_}
 use mathlib.Core.List.{List}
 use Rattle.outcome.specs.declared.refusals.Refusal.{Refusal}
 use Rattle.outcome.specs.declared.writes.Written.{Written}
@@ -8,6 +8,10 @@ use Rattle.outcome.specs.Verdicts.{verdictByte}
 use Rattle.outcome.specs.declared.checks.Check.{Check}
 use Rattle.outcome.specs.declared.checks.Check.the-variants.{Accepted, Refused}
 use Rattle.question.specs.Limits.{maxStatements}
+use Rattle.judge.specs.declared.judging.Judgement.{Judgement}
+use Rattle.judge.specs.declared.judging.Judgement.the-variants.{Yes, No, Refused as NotJudged}
+use Rattle.judge.specs.Judgements.{allHold}
+use Rattle.model_file.specs.Judges.{fileJudged}
 use Rattle.decision.specs.declared.decisions.Decision.{Decision}
 use Rattle.clash.specs.declared.files.ClashWritten.{ClashWritten}
 use Rattle.clash.specs.declared.files.ClashWritten.the-variants.{Counts, Refused as ClashRefused}
@@ -54,6 +58,12 @@ asNumber (Answered n) = n * 256
 asNumber SaidUnsatisfiable = 0
 asNumber (SolvedRefused r) = placedNumber r
 
+-- the index of the first statement that fails, 64 if all hold, or the refusal
+abbrev pub judgementNumber : Judgement → ℕ
+judgementNumber Yes = allHold * 256
+judgementNumber (No i) = i * 256
+judgementNumber (NotJudged r) = refusalNumber r
+
 -- what `sayfudhoum_answer` gives back, where there is room for so many bytes
 unfoldable pub answerNumber : List ℕ → ℕ → ℕ
 answerNumber bytes room = writtenNumber (answered bytes room)
@@ -73,6 +83,10 @@ clausesNumber bytes room = writtenNumber (fileClauses bytes room)
 -- what `sayfudhoum_solved` gives back, beside a solver's lines
 unfoldable pub solvedNumber : List ℕ → List ℕ → ℕ → ℕ
 solvedNumber bytes lines room = asNumber (fileSolved bytes lines room)
+
+-- what `sayfudhoum_judge` gives back, beside the bytes of a model
+unfoldable pub judgeNumber : List ℕ → List ℕ → ℕ
+judgeNumber bytes model = judgementNumber (fileJudged bytes model)
 
 -- places and counts that leave room for the lowest byte: no refusal of a file lies further on, and no call writes more bytes
 abbrev pub maxPlace : ℕ
@@ -97,3 +111,8 @@ abbrev pub IsBrief : Solved → Type 0
 IsBrief (Answered n) = n ≤ maxPlace
 IsBrief SaidUnsatisfiable = Unit {0}
 IsBrief (SolvedRefused r) = Unit {0}
+
+abbrev pub IsIndexed : Judgement → Type 0
+IsIndexed Yes = Unit {0}
+IsIndexed (No i) = i < maxStatements
+IsIndexed (NotJudged r) = r .place ≤ maxPlace

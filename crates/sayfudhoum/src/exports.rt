@@ -2,11 +2,13 @@
 use crate::files::answer_file;
 use crate::files::decide_file;
 use crate::numbers::clash_number;
+use crate::numbers::judgement_number;
 use crate::numbers::outcome_number;
 use crate::numbers::solved_number;
 use crate::numbers::written_number;
 use clash::clash_file;
 use dimacs::clauses_file;
+use model_file::judge_file;
 use solved::solve_file;
 ghost use mathlib.Core.Path.{_≡_};
 ghost use lib.ListN.{length};
@@ -14,7 +16,7 @@ ghost use Rattle.clash.specs.Files.{three, clashOver};
 ghost use Rattle.dimacs.specs.Writes.{fileClausesOver};
 ghost use Rattle.solved.specs.Solved.{fileSolvedOver};
 ghost use Rattle.sayfudhoum.specs.Files.{answeredOver};
-ghost use Rattle.sayfudhoum.specs.Numbers.{answerNumber, verdictNumber, clashNumber, clausesNumber, solvedNumber};
+ghost use Rattle.sayfudhoum.specs.Numbers.{answerNumber, verdictNumber, clashNumber, clausesNumber, solvedNumber, judgeNumber};
 
 // Question bytes to answer bytes: the count of the bytes written, or the refusal.
 #[no_mangle]
@@ -68,4 +70,13 @@ pub extern "C" fn sayfudhoum_solved(question: &[u8], lines: &[u8], answer: &mut 
 {
     let solved = solve_file(question, lines, answer);
     solved_number(solved)
+}
+
+// Question bytes and the bytes of any model to the judgement: the index of the first statement that fails, 64 if all hold, or the refusal.
+#[no_mangle]
+pub extern "C" fn sayfudhoum_judge(question: &[u8], model: &[u8]) -> u64
+    ensures { λ r. ⌜ r ≡ judgeNumber (now (question .entry)) (now (model .entry)) ⌝ }
+{
+    let judgement = judge_file(question, model);
+    judgement_number(judgement)
 }

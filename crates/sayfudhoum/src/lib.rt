@@ -6,6 +6,7 @@ mod numbers;
 pub use exports::sayfudhoum_answer;
 pub use exports::sayfudhoum_clash;
 pub use exports::sayfudhoum_clauses;
+pub use exports::sayfudhoum_judge;
 pub use exports::sayfudhoum_solved;
 pub use exports::sayfudhoum_verdict;
 pub use files::answer_file;

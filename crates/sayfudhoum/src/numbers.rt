@@ -1,6 +1,7 @@
-// The number that a call for C gives back: the lowest byte is the refusal number, or 0; the rest is the place, the count of bytes, the three counts of a clash, or the verdict.
+// The number that a call for C gives back: the lowest byte is the refusal number, or 0; the rest is the place, the count of bytes, the three counts of a clash, the verdict, or the index of a statement.
 // A place in a solver's lines, which may be of any length, is told by its lowest 56 bits: no memory is longer.
 use clash::ClashWritten;
+use judge::Judgement;
 use outcome::Check;
 use outcome::Refusal;
 use outcome::Verdict;
@@ -9,7 +10,7 @@ use solved::Solved;
 ghost use mathlib.Core.Path.{_≡_};
 ghost use Prim.Native.Nat.{_≤_};
 ghost use Rattle.outcome.specs.Verdicts.{verdictByte};
-ghost use Rattle.sayfudhoum.specs.Numbers.{maxPlace, IsSmall, IsShort, IsFew, IsBrief, refusalNumber, writtenNumber, outcomeNumber, clashedNumber, placedNumber, asNumber};
+ghost use Rattle.sayfudhoum.specs.Numbers.{maxPlace, IsSmall, IsShort, IsFew, IsBrief, IsIndexed, refusalNumber, writtenNumber, outcomeNumber, clashedNumber, placedNumber, asNumber, judgementNumber};
 
 fn refusal_number(refusal: Refusal) -> u64
     requires { ⌜ refusal .place ≤ maxPlace ⌝ }
@@ -82,5 +83,16 @@ pub(crate) fn solved_number(solved: Solved) -> u64
         Solved::Answered(count) => count as u64 * 256,
         Solved::SaidUnsatisfiable => 0,
         Solved::Refused(refusal) => placed_number(refusal),
+    }
+}
+
+pub(crate) fn judgement_number(judgement: Judgement) -> u64
+    requires { ⌜ IsIndexed judgement ⌝ }
+    ensures { λ r. ⌜ r ≡ judgementNumber judgement ⌝ }
+{
+    match judgement {
+        Judgement::Yes => Judgement::ALL_HOLD as u64 * 256,
+        Judgement::No(index) => index as u64 * 256,
+        Judgement::Refused(refusal) => refusal_number(refusal),
     }
 }
