@@ -7,7 +7,10 @@
  * on: the nanoseconds of one call of sayfudhoum_clash, and the clashing part, a question in hexadecimal.
  * That of a possible question stays as it is. With a second argument `clauses` every line goes on: the
  * nanoseconds of one call of sayfudhoum_clauses, the bytes that it writes, and the nanoseconds that reading
- * alone takes: a call that is refused because the last byte of the question is missing.
+ * alone takes: a call that is refused because the last byte of the question is missing. With a second
+ * argument `judge` the line of a possible question goes on: the nanoseconds of one call of sayfudhoum_judge
+ * on the model of the answer, and those of reading alone: the same call, refused because the last byte of
+ * the model is missing.
  */
 #define _POSIX_C_SOURCE 200809L /* clock_gettime */
 #include "sayfudhoum.h"
@@ -26,6 +29,8 @@ static uint8_t answer[SAYFUDHOUM_MAX_ANSWER_LENGTH];
 static uint8_t part[SAYFUDHOUM_MAX_QUESTION_LENGTH];
 static uint8_t indexes[SAYFUDHOUM_MAX_STATEMENTS];
 static uint8_t clauses[SAYFUDHOUM_MAX_CLAUSES_LENGTH];
+static uint8_t model[SAYFUDHOUM_MAX_MODEL_LENGTH];
+static size_t model_length;
 
 static uint64_t decide(void)
 {
@@ -45,6 +50,16 @@ static uint64_t write_clauses(void)
 static uint64_t read_only(void)
 {
     return sayfudhoum_verdict(question, length - 1);
+}
+
+static uint64_t judge(void)
+{
+    return sayfudhoum_judge(question, length, model, model_length);
+}
+
+static uint64_t judge_cut(void)
+{
+    return sayfudhoum_judge(question, length, model, model_length - 1);
 }
 
 static double now(void)
@@ -95,6 +110,29 @@ static void time_clauses(int batches)
     printf(" %.0f", shortest(read_only, batches));
 }
 
+/* The model of a possible answer: the number of its classes, the class numbers of the names, the masks. */
+static void take_model(void)
+{
+    const uint8_t *classes = answer + 7; /* behind the verdict and the head of field 41 */
+    const uint8_t *masks = classes + answer[6] + 3;
+    size_t names = question[3], masks_length = masks[-1];
+    model[0] = (uint8_t)(masks_length / 2);
+    memcpy(model + 1, classes, names);
+    memcpy(model + 1 + names, masks, masks_length);
+    model_length = 1 + names + masks_length;
+}
+
+/* False if the model of the answer is not judged to be one. */
+static int time_judge(int batches)
+{
+    take_model();
+    if (judge() != 256 * SAYFUDHOUM_ALL_HOLD || judge_cut() != SAYFUDHOUM_BAD_MODEL)
+        return 0;
+    printf(" %.0f", shortest(judge, batches));
+    printf(" %.0f", shortest(judge_cut, batches));
+    return 1;
+}
+
 int main(int count, char **words)
 {
     int batches = count > 1 ? atoi(words[1]) : 5;
@@ -116,6 +154,10 @@ int main(int count, char **words)
             time_clash(batches);
         if (strcmp(more, "clauses") == 0)
             time_clauses(batches);
+        if (strcmp(more, "judge") == 0 && answer[3] == 1 && !time_judge(batches)) {
+            fprintf(stderr, "%s: its own model fails\n", name);
+            return 2;
+        }
         printf("\n");
         fflush(stdout);
     }

@@ -1,7 +1,7 @@
 #!/usr/bin/env python3
 """Times this library and other solvers on the stored questions, compares all verdicts and prints ratios. Then the
-same for the clashing part of each impossible question, beside the minimal unsat core of cvc5. Last what it takes to
-write the clauses of each question for an outside solver, beside reading it.
+same for the clashing part of each impossible question, beside the minimal unsat core of cvc5. Last, beside reading the
+question, what it takes to write its clauses for an outside solver, and to judge the model of a possible one.
 
     bench/run.py DRIVER WORDS..     the command that runs the built driver.c
 
@@ -242,6 +242,19 @@ def time_clauses(driver):
             median(readings), median(writings), max(writings))), *(f'{ns:.2f}' for ns in (each[0], median(each), each[-1])))
 
 
+def time_judge(driver):
+    """Prints the table of what it takes to judge the first model of each possible question."""
+    print_titles('family', 'possible', 'reading, median', 'reading and judging, median', 'worst', 'judging alone, median',
+                 'worst')
+    for family, questions in stored().items():
+        rows = [(float(words[3]), float(words[4])) for words in driven(driver, questions, 5, 'judge') if words[1] == '1']
+        if rows:
+            judgings, readings = zip(*rows)
+            alone = [judging - reading for judging, reading in rows]
+            print_row(family, len(rows), *(readable(taken / 1e9) for taken in (
+                median(readings), median(judgings), max(judgings), median(alone), max(alone))))
+
+
 def main(driver):
     solvers, cores = ({title: solve for title, (command, solve) in all_of.items() if shutil.which(command)}
                       for all_of in (SOLVERS, CORES))
@@ -259,6 +272,8 @@ def main(driver):
     differences += compare_clashes(driver, cores, details, families)
     print('\nThe clauses of all questions, as text\n')
     time_clauses(driver)
+    print('\nThe judge on the first models of the possible questions\n')
+    time_judge(driver)
     Path('target/bench.tsv').write_text(''.join('\t'.join(map(str, [name, *row])) + '\n' for name, row in details.items()))
     print('\n'.join(['', 'Each time in microseconds: target/bench.tsv', f'{len(differences)} differences', *differences]))
     return 1 if differences else 0

@@ -1,6 +1,6 @@
 #!/usr/bin/env python3
-"""What crates/cases has to print for its clauses (N, M, H) and a solver's lines (L, V), made from documents 01 and 02
-without the library.
+"""What crates/cases has to print for its clauses (N, M, H), a solver's lines (L, V) and models as bytes (G), made from
+documents 01 and 02 without the library.
 
     tools/clauses_lines.py          prints each case for which crates/cases/stdout has another line
     tools/clauses_lines.py --all    prints what it expects of each case"""
@@ -191,6 +191,16 @@ def answer(q, text, room):
     return 'answer %s, the rest untouched' % data.hex(' ')
 
 
+def judged(q, data):
+    """The judgement of a model: n, the elements, and n masks of two bytes."""
+    n, behind = (data or b'\0')[0], 1 + q.elements
+    elements, masks = data[1:behind], [int.from_bytes(data[i:i + 2], 'big') for i in range(behind, len(data), 2)]
+    if len(data) != behind + 2 * n or n > 12 or any(d >= n for d in elements) or any(m >> q.sets for m in masks):
+        raise Refused(11, 0)
+    failing = [i for i, s in enumerate(q.statements) if not holds(s, elements, masks)]
+    return 'no %d' % failing[0] if failing else 'yes'
+
+
 def expected(line):
     letter, *groups = line[0], *line[1:].split('/')
     groups += [''] * (3 - len(groups))
@@ -198,7 +208,9 @@ def expected(line):
     room = bytes.fromhex(groups[2 if letter in 'LV' else 1])
     room = room[0] if room else LENT
     try:
-        q = of_file(data) if letter in 'NL' else of_table(data)
+        q = of_file(data) if letter in 'NLG' else of_table(data)
+        if letter == 'G':
+            return judged(q, bytes.fromhex(groups[1]))
         if letter in 'LV':
             return answer(q, groups[1].replace('|', '\n'), room)
         text = clauses(q)
@@ -208,7 +220,7 @@ def expected(line):
             raise Refused(10, 0)
         return '%d bytes %s, the rest untouched' % (len(text), text.replace('\n', '|'))
     except Refused as r:
-        return 'refused %d at %d' % r.args + (', buffer untouched' if letter != 'H' else '')
+        return 'refused %d at %d' % r.args + (', buffer untouched' if letter not in 'HG' else '')
 
 
 def main():
@@ -217,7 +229,7 @@ def main():
         pairs = itertools.zip_longest(cases.read().splitlines(), printed.read().splitlines())
     different = False
     for number, (case, line) in enumerate(pairs, 1):
-        if case and case[0] in 'NMHLV':
+        if case and case[0] in 'NMHLVG':
             if '--all' in sys.argv:
                 print(expected(case))
             elif expected(case) != line:

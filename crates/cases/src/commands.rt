@@ -29,6 +29,7 @@ use question_file::write_question;
 use reduction::reduce;
 use sayfudhoum::answer_file;
 use sayfudhoum::respond;
+use sayfudhoum::sayfudhoum_judge;
 use sayfudhoum::sayfudhoum_verdict;
 use search::SearchAnswer;
 use search::search;
@@ -43,6 +44,11 @@ fn check_table(bytes: &[u8]) {
 // J: a table and a model, judged.
 fn judge_model(bytes: &[u8], points: &[u8], memberships: &[u8]) {
     outcomes::judgement(judge(table(bytes), model(points, memberships)));
+}
+
+// G: a question file and the bytes of a model, judged.
+fn judge_bytes(bytes: &[u8], model: &[u8]) {
+    outcomes::judged(sayfudhoum_judge(bytes, model));
 }
 
 fn write_into(q: Question, file: &mut [u8]) {
@@ -306,6 +312,7 @@ fn run_case(letter: u8, first: &[u8], second: &[u8], third: &[u8]) {
         b'W' => write_table(first, second),
         b'T' => check_table(first),
         b'J' => judge_model(first, second, third),
+        b'G' => judge_bytes(first, second),
         b'R' => reduce_table(first, second),
         b'S' => search_rows(first, second),
         b'D' => decide(first),

@@ -19,14 +19,15 @@ fn word_at(bytes: &[u8], i: usize) -> u32 {
     high * 65536 + low
 }
 
-fn elements(points: &[u8]) -> [u8; 8] {
-    let mut elements = [0u8; 8];
+// The numbers behind the first byte: the elements of names, or the class numbers of terms.
+fn numbers(bytes: &[u8]) -> [u8; 12] {
+    let mut numbers = [0u8; 12];
     let mut i: usize = 0;
-    while i < 8 {
-        elements[i] = byte_at(points, i + 1);
+    while i < 12 {
+        numbers[i] = byte_at(bytes, i + 1);
         i += 1;
     }
-    elements
+    numbers
 }
 
 fn masks(memberships: &[u8]) -> [u32; 12] {
@@ -43,19 +44,9 @@ fn masks(memberships: &[u8]) -> [u32; 12] {
 pub(crate) fn model(points: &[u8], memberships: &[u8]) -> Model {
     Model {
         size: byte_at(points, 0) as usize,
-        elements: elements(points),
+        elements: numbers(points),
         masks: masks(memberships),
     }
-}
-
-fn class_numbers(numbers: &[u8]) -> [u8; 12] {
-    let mut arrangement = [0u8; 12];
-    let mut i: usize = 0;
-    while i < 12 {
-        arrangement[i] = byte_at(numbers, i + 1);
-        i += 1;
-    }
-    arrangement
 }
 
 fn verdict(byte: u8) -> Verdict {
@@ -66,10 +57,10 @@ fn verdict(byte: u8) -> Verdict {
 }
 
 // A verdict and the class numbers, then the masks.
-pub(crate) fn answer(numbers: &[u8], memberships: &[u8]) -> Answer {
+pub(crate) fn answer(classes: &[u8], memberships: &[u8]) -> Answer {
     Answer {
-        verdict: verdict(byte_at(numbers, 0)),
-        arrangement: class_numbers(numbers),
+        verdict: verdict(byte_at(classes, 0)),
+        arrangement: numbers(classes),
         masks: masks(memberships),
     }
 }
@@ -77,16 +68,10 @@ pub(crate) fn answer(numbers: &[u8], memberships: &[u8]) -> Answer {
 // The model that the search found: a name's element is its class.
 pub(crate) fn model_of(answer: SearchAnswer) -> Model {
     let arrangement = answer.arrangement;
-    let mut elements = [0u8; 8];
-    let mut i: usize = 0;
-    while i < 8 {
-        elements[i] = arrangement[i];
-        i += 1;
-    }
     let masks = answer.masks;
     Model {
         size: answer.classes,
-        elements: elements,
+        elements: arrangement,
         masks: masks,
     }
 }

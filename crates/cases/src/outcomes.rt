@@ -46,6 +46,20 @@ pub(crate) fn judgement(j: Judgement) {
     }
 }
 
+// The number of a judgement, taken apart: a refusal in the lowest byte and its place above it; else an index, or 64 if all hold.
+pub(crate) fn judged(n: u64) {
+    let lowest = n % 256;
+    let rest = n / 256;
+    if lowest != 0 {
+        refusal(Refusal::new(lowest as u8, rest as usize));
+    } else if rest == 64 {
+        text(b"yes");
+    } else {
+        text(b"no ");
+        number(rest as usize);
+    }
+}
+
 // Rows in six hexadecimal digits.
 pub(crate) fn rows(rows: &[u32]) {
     number(rows.len());

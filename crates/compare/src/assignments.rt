@@ -3,16 +3,18 @@ use question::Question;
 use statement::ElementName;
 use statement::SetName;
 use statement::Statement;
+ghost use Prim.Native.Nat.{_≤_};
 
-// The domain element of each element name, and the part of each set name: bit d says that domain element d is in it.
+// The domain element of each element name, with as much room as an arrangement has, and the part of each set name: bit d
+// says that domain element d is in it.
 pub struct Assignment {
-    pub elements: [u8; 8],
+    pub elements: [u8; 12],
     pub parts: [u16; 16],
 }
 
 fn element(v: Assignment, a: ElementName) -> u8 {
     let i = a.0 as usize;
-    if i < 8 { v.elements[i] } else { 0 }
+    if i < 12 { v.elements[i] } else { 0 }
 }
 
 fn part(v: Assignment, x: SetName) -> u16 {
@@ -93,4 +95,24 @@ pub(crate) fn hold_so_far(q: Question, v: Assignment, known: u16) -> bool {
         i += 1;
     }
     true
+}
+
+// The index of the first statement that fails, or 64.
+pub(crate) fn first_failing(q: Question, v: Assignment) -> usize
+    ensures { λ r. ⌜ r ≤ 64 ⌝ }
+{
+    let count = q.count;
+    let mut i: usize = 0;
+    while i < 64 {
+        if count <= i {
+            return 64;
+        }
+        let entry = q.table[i];
+        let s = entry.statement;
+        if !holds(v, s) {
+            return i;
+        }
+        i += 1;
+    }
+    64
 }

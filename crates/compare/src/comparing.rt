@@ -1,6 +1,8 @@
 // One question put to both solvers, and what is counted.
 use crate::clashes;
+use crate::judged;
 use crate::models::is_right;
+use crate::models::model_of;
 use crate::patterns::patterns;
 use crate::patterns::stated;
 use crate::printing;
@@ -9,6 +11,7 @@ use crate::trials::exists;
 use answer::Answer;
 use clash::clash;
 use decision::decide;
+use judge::Model;
 use outcome::Check;
 use outcome::Verdict;
 use question::Question;
@@ -23,6 +26,11 @@ pub struct Tally {
     pub models: u64,
     // Of these, read back from a solver's lines.
     pub read: u64,
+    // And judged as bytes. With a bit of a mask turned all statements still hold, or one fails, or the bit is for no set.
+    pub judged: u64,
+    pub holding: u64,
+    pub failing: u64,
+    pub bad: u64,
     // Statements in the clashing parts.
     pub clashing: u64,
     pub differences: u64,
@@ -37,6 +45,10 @@ impl Tally {
             patterns: 0,
             models: 0,
             read: 0,
+            judged: 0,
+            holding: 0,
+            failing: 0,
+            bad: 0,
             clashing: 0,
             differences: 0,
         }
@@ -65,14 +77,51 @@ fn is_possible(answer: Answer) -> bool {
     }
 }
 
-// A model of the library, tested: by both tests, and by what is read from a solver's lines that say it.
+// One more model in which a bit was turned, by the number that it got.
+fn with_turned(t: Tally, number: u64) -> Tally {
+    let mut counted = t;
+    if number == judged::BAD_MODEL {
+        counted.bad = one_more(t.bad);
+    } else if number == judged::ALL_HOLD {
+        counted.holding = one_more(t.holding);
+    } else {
+        counted.failing = one_more(t.failing);
+    }
+    counted
+}
+
+// A model with a bit turned that a number chooses, judged as bytes; an empty domain has none.
+fn hold_turned(t: Tally, q: Question, m: Model, r: u64) -> Tally {
+    if m.size == 0 {
+        return t;
+    }
+    let bit = judged::chosen(q, m, r);
+    let turned = judged::turned(m, bit);
+    let due = judged::due(q, turned, bit);
+    if judged::gets(q, turned, due) {
+        return with_turned(t, due);
+    }
+    differ(t, q)
+}
+
+// A model in which all statements hold, judged as bytes.
+fn hold_bytes(t: Tally, q: Question, m: Model, r: u64) -> Tally {
+    if judged::gets(q, m, judged::ALL_HOLD) {
+        let mut counted = t;
+        counted.judged = one_more(t.judged);
+        return hold_turned(counted, q, m, r);
+    }
+    differ(t, q)
+}
+
+// A model of the library, tested: by both tests, by what is read from a solver's lines that say it, and as bytes.
 fn hold_model(t: Tally, q: Question, answer: Answer, possible: bool) -> Tally {
     let mut counted = t;
     counted.models = one_more(t.models);
     if said::is_right(q, answer, t.models) {
         counted.read = one_more(t.read);
         if possible & is_right(q, answer) {
-            return counted;
+            return hold_bytes(counted, q, model_of(q, answer), t.models);
         }
     }
     differ(counted, q)

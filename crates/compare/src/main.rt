@@ -4,6 +4,7 @@ mod assignments;
 mod clashes;
 mod comparing;
 mod drawn;
+mod judged;
 mod models;
 mod orders;
 mod outside;

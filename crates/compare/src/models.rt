@@ -1,6 +1,6 @@
 // The model that an answer shows, tested: by the library's judge, and as an assignment by the second solver's own test.
 use crate::assignments::Assignment;
-use crate::assignments::hold_so_far;
+use crate::assignments::first_failing;
 use answer::Answer;
 use judge::Judgement;
 use judge::Model;
@@ -28,12 +28,12 @@ fn classes(arrangement: [u8; 12], terms: usize) -> usize {
 }
 
 // A name's element is its class.
-fn model_of(q: Question, answer: Answer) -> Model {
-    let a = answer.arrangement;
+pub(crate) fn model_of(q: Question, answer: Answer) -> Model {
+    let arrangement = answer.arrangement;
     let masks = answer.masks;
     Model {
-        size: classes(a, terms(q)),
-        elements: [a[0], a[1], a[2], a[3], a[4], a[5], a[6], a[7]],
+        size: classes(arrangement, terms(q)),
+        elements: arrangement,
         masks: masks,
     }
 }
@@ -76,15 +76,19 @@ fn is_judged(q: Question, m: Model) -> bool {
     }
 }
 
-// Does every statement hold in the model as an assignment. Each name's element is in the domain: it is a class.
-fn is_met(q: Question, m: Model) -> bool {
+// The model as an assignment. Each name's element is in the domain: it is a class.
+pub(crate) fn assignment(q: Question, m: Model) -> Assignment {
     let elements = m.elements;
     let masks = m.masks;
-    let v = Assignment {
+    Assignment {
         elements: elements,
         parts: parts(masks, m.size, q.sets),
-    };
-    hold_so_far(q, v, 0xffff)
+    }
+}
+
+// Does every statement hold in the model as an assignment.
+fn is_met(q: Question, m: Model) -> bool {
+    first_failing(q, assignment(q, m)) == 64
 }
 
 // Is what the answer shows a model of the question, by both tests.

@@ -14,14 +14,19 @@ pub(crate) fn patterns(elements: u8) -> usize {
     }
 }
 
+// The domain elements of three names.
+fn placed(a: u8, b: u8, c: u8) -> [u8; 12] {
+    [a, b, c, 0, 0, 0, 0, 0, 0, 0, 0, 0]
+}
+
 // A pattern as a domain element for each name: two names are equal exactly if theirs is the same. Two names have the first two.
-pub(crate) fn pattern(p: usize) -> [u8; 8] {
+pub(crate) fn pattern(p: usize) -> [u8; 12] {
     match p {
-        0 => [0, 0, 0, 0, 0, 0, 0, 0],
-        1 => [0, 1, 0, 0, 0, 0, 0, 0],
-        2 => [0, 0, 1, 0, 0, 0, 0, 0],
-        3 => [0, 1, 1, 0, 0, 0, 0, 0],
-        _ => [0, 1, 2, 0, 0, 0, 0, 0],
+        0 => placed(0, 0, 0),
+        1 => placed(0, 1, 0),
+        2 => placed(0, 0, 1),
+        3 => placed(0, 1, 1),
+        _ => placed(0, 1, 2),
     }
 }
 

@@ -47,6 +47,10 @@ pub(crate) fn tally(t: Tally) {
     }
     number(b", models judged ", t.models);
     number(b", read back ", t.read);
+    number(b", judged as bytes ", t.judged);
+    number(b", turned and holding ", t.holding);
+    number(b", turned and failing ", t.failing);
+    number(b", turned and bad ", t.bad);
     if t.clashing != 0 {
         number(b", clashing statements ", t.clashing);
     }

@@ -62,7 +62,7 @@ fn is_in(a: Answer, t: Turn, c: usize, x: usize) -> bool {
     value((mask_of(a, c) >> (x % 32)) % 2 == 1, is_turned(t, 1, c, x))
 }
 
-fn put(b: u8, at: usize, buf: &mut [u8]) -> usize
+pub(crate) fn put(b: u8, at: usize, buf: &mut [u8]) -> usize
     ensures { λ _. ⌜ length (now (buf .exit)) ≡ length (now (buf .entry)) ⌝ }
 {
     if at < buf.len() {
@@ -329,7 +329,7 @@ fn is_read(q: Question, a: Answer, t: Turn, model: Answer) -> bool {
 }
 
 // A number below n, or 0.
-fn below(r: u64, n: usize) -> usize {
+pub(crate) fn below(r: u64, n: usize) -> usize {
     if n == 0 { 0 } else { (r % n as u64) as usize }
 }
 

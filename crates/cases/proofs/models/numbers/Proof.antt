@@ -1,20 +1,20 @@
--- `class_numbers` fills the arrangement index by index.
+-- `numbers` fills the table index by index.
 use Prim.Native.Nat.{_-_, _≤_}
 use mathlib.Core.Path.{_≡_, refl}
 use native.Mathlib.Omega.{arith}
 use borrow.Author.Needs.{needs}
 use lib.ListN.{length, length-set}
-use Rattle.cases.proofs.models.class_numbers.Statement.{statement}
-use Rattle.cases.proofs.models.class_numbers.Tie as tie
+use Rattle.cases.proofs.models.numbers.Statement.{statement}
+use Rattle.cases.proofs.models.numbers.Tie as tie
 
 abbrev Inv-loop : tie.InvT-loop
-Inv-loop numbers arrangement₀ i₀ arrangement i = (i ≤ 12) × (length arrangement ≡ 12)
+Inv-loop bytes numbers₀ i₀ numbers i = (i ≤ 12) × (length numbers ≡ 12)
 
 abbrev μ-loop : tie.MeasureT-loop
-μ-loop numbers arrangement₀ i₀ arrangement i = 12 - i
+μ-loop bytes numbers₀ i₀ numbers i = 12 - i
 
-pub class-numbers-spec : {M : Type 1} → statement M
-class-numbers-spec =
+pub numbers-spec : {M : Type 1} → statement M
+numbers-spec =
     tie.close
     (tie.spec
     Inv-loop
