@@ -40,7 +40,8 @@ example: library
 test:
 	.ci/run
 
-memcheck_sources = bad_input clashes damage dimacs files finder heap_slices lines reader rounds solver table
+memcheck_sources = bad_input clashes damage dimacs files finder heap_slices judging lines models reader rounds \
+    solver table
 ifeq ($(shell uname -m),x86_64)
 memcheck: library
 	mkdir -p target/c

@@ -1,10 +1,11 @@
 /*
- * Damaged files through all five functions. The question ends at a page that can't be read, each
+ * Damaged files through all six functions. The question ends at a page that can't be read, each
  * buffer stands between two, and the bytes beside it are looked at. Refusals and places are compared
  * with the tests' own reader. Of what is accepted, the answer must be an answer file with the verdict
  * of the other call and a model that meets every statement; of small questions, the first model. The
  * clashing part must be that of the tests' own finder, with the same answer, and the clauses those of the
- * tests' own writer. The lines that say the answer's model must be read back as that answer.
+ * tests' own writer. The lines that say the answer's model must be read back as that answer. In that model all
+ * statements must hold, and with a bit turned it must be judged as the tests' own judge does it.
  *
  *   bad_input [N]    tries every Nth file, 1 if it is left out, and prints how many there were
  */
@@ -12,7 +13,9 @@
 #include "damage.h"
 #include "files.h"
 #include "finder.h"
+#include "judging.h"
 #include "lines.h"
+#include "models.h"
 #include "reader.h"
 #include "rounds.h"
 #include "sayfudhoum.h"
@@ -72,6 +75,10 @@ static void try_refused(uint64_t refusal)
     const struct due due = {refusal, lines, 0};
     expect(gives(&input, FOR_CLAUSES, tried % 1000, next_edge(), &due), "sayfudhoum_clauses refused otherwise, or wrote");
     expect(gives(&input, FOR_ANSWER, rooms[FOR_ANSWER], next_edge(), &due), "sayfudhoum_solved refused otherwise, or wrote");
+
+    static const uint8_t model[1 + SAYFUDHOUM_MAX_ELEMENTS + 2] = {1};
+    size_t part = tried % (sizeof model + 1); /* of the model, which is good if it fits the number of names */
+    expect(judges(question, length, model, part, refusal), "sayfudhoum_judge refused otherwise, or wrote");
 }
 
 /* A model must meet every statement. Where everything can be tried, the answer must be the first model. */
@@ -137,6 +144,28 @@ static void try_lines(const struct question *asked, const struct model *model, c
         expect(gives(&input, FOR_ANSWER, room, next_edge(), &due), "another answer to the answer's own lines");
 }
 
+/* The answer's own model, in which all statements must hold, and then with a bit turned. */
+static void try_own_model(const struct question *asked, const uint8_t *answer)
+{
+    uint8_t model[SAYFUDHOUM_MAX_MODEL_LENGTH];
+    size_t count = model_in(answer, asked->elements, model);
+    expect(judges(question, length, model, count, ALL_HOLD), "the answer's own model fails, or was written");
+    size_t bit = tried % (8 * count);
+    model[bit / 8] ^= (uint8_t)(1u << bit % 8);
+    uint64_t due = judge_model(asked, model, count);
+    expect(judges(question, length, model, count, due), "with a bit turned, not what the second judge says");
+}
+
+/* One element that is in no set: a model in which a statement of an impossible question fails, as in any other. */
+static void try_failing_model(const struct question *asked)
+{
+    static const uint8_t model[SAYFUDHOUM_MAX_MODEL_LENGTH] = {1};
+    size_t count = 3 + asked->elements;
+    uint64_t due = judge_model(asked, model, count);
+    expect(due != ALL_HOLD, "impossible, and all statements hold");
+    expect(judges(question, length, model, count, due), "not the statement that fails by the second judge");
+}
+
 static void try_accepted(const struct question *asked, uint64_t verdict)
 {
     uint8_t answer[SAYFUDHOUM_MAX_ANSWER_LENGTH];
@@ -157,8 +186,10 @@ static void try_accepted(const struct question *asked, uint64_t verdict)
     try_clauses(asked);
     if (said) {
         try_lines(asked, &model, answer, count);
+        try_own_model(asked, answer);
         possible++;
     } else {
+        try_failing_model(asked);
         impossible++;
     }
 }

@@ -84,6 +84,22 @@ static int refuses_round(const uint8_t *question, size_t length, uint64_t refusa
     return gives_in_rooms(&input, FOR_CLAUSES, &due) && gives_in_rooms(&input, FOR_ANSWER, &due);
 }
 
+/*
+ * A model of one element in no set, cut off after each byte. The question's refusal comes before that of a bad
+ * model; of a question that is accepted, the model is judged in the one length that it has with E names.
+ */
+static int judges_prefixes(const uint8_t *question, size_t length, uint64_t refusal)
+{
+    static const uint8_t model[1 + SAYFUDHOUM_MAX_ELEMENTS + 2] = {1};
+    for (size_t count = 0; count <= sizeof model; count++) {
+        uint64_t number = sayfudhoum_judge(question, length, lend_model(model, count), count);
+        int whole = refusal == 0 && count == 3u + question[3];
+        if (whole ? sayfudhoum_refusal(number) != 0 : number != (refusal != 0 ? refusal : SAYFUDHOUM_BAD_MODEL))
+            return 0;
+    }
+    return 1;
+}
+
 /* All functions refuse it so, or none does. A refused question is never refused by 10, and nothing is written. */
 static int as_expected(const struct edge_case *edge_case)
 {
@@ -94,7 +110,8 @@ static int as_expected(const struct edge_case *edge_case)
     static const size_t no_rooms[CLASH_BUFFERS] = {0};
     if (edge_case->refusal == 0)
         return sayfudhoum_refusal(verdict) == 0
-            && refuses(question, length, no_rooms, BEFORE_PAGE, SAYFUDHOUM_BUFFER_TOO_SHORT);
+            && refuses(question, length, no_rooms, BEFORE_PAGE, SAYFUDHOUM_BUFFER_TOO_SHORT)
+            && judges_prefixes(question, length, 0);
     if (sayfudhoum_refusal(verdict) != edge_case->refusal || sayfudhoum_rest(verdict) != edge_case->place)
         return 0;
     for (size_t room = 0; room <= SAYFUDHOUM_MAX_ANSWER_LENGTH; room++) {
@@ -104,7 +121,7 @@ static int as_expected(const struct edge_case *edge_case)
     }
     return refuses(question, length, no_rooms, BEFORE_PAGE, verdict)
         && refuses(question, length, longest_rooms, BEFORE_PAGE, verdict)
-        && refuses_round(question, length, verdict);
+        && refuses_round(question, length, verdict) && judges_prefixes(question, length, verdict);
 }
 
 int main(void)

@@ -1,6 +1,6 @@
 /*
  * The header by itself, first and twice, as C99 and as C++11: its constants are the numbers of documents
- * 01 and 02, all five functions link, and a result comes apart.
+ * 01 and 02, all six functions link, and a result comes apart.
  */
 #include "sayfudhoum.h"
 #include "sayfudhoum.h"
@@ -16,6 +16,8 @@ SAME(MAX_QUESTION_LENGTH, 5 + 64 * 6 + 3);
 SAME(MAX_ANSWER_LENGTH, 4 + (3 + 12) + (3 + 24) + 3);
 /* The first line, "p cnf 259 5076", and as many clauses of the longest kind, "-259 -259 -259 0": of triples, pairs, rows. */
 SAME(MAX_CLAUSES_LENGTH, 15 + (3 * 220 + 2 * 66 * 16 + 3 * 768) * 17);
+SAME(MAX_MODEL_LENGTH, 1 + 8 + 2 * 12);
+SAME(ALL_HOLD, 64);
 SAME(TAG_NAMES, 1);
 SAME(TAG_ELEMENTS_EQUAL, 16);
 SAME(TAG_ELEMENTS_DIFFER, 17);
@@ -99,9 +101,25 @@ static int goes_round(void)
                == 256 * 14 + SAYFUDHOUM_BAD_LINES;
 }
 
+/* e0 = e0 and e0 in s0: in one model the element is in s0, in the other it isn't, so that statement 1 fails. */
+static int judges(void)
+{
+    static const uint8_t question[] = {SAYFUDHOUM_TAG_NAMES,          0, 2, 1, 1,
+                                       SAYFUDHOUM_TAG_ELEMENTS_EQUAL, 0, 2, 0, 0,
+                                       SAYFUDHOUM_TAG_IN,             0, 2, 0, 0,
+                                       SAYFUDHOUM_TAG_END,            0, 0};
+    static const uint8_t in[] = {1, 0, 0, 1}, out[] = {1, 0, 0, 0};
+    uint64_t result = sayfudhoum_judge(question, sizeof question, in, sizeof in);
+    if (result != 256 * 64 || sayfudhoum_refusal(result) != 0 || sayfudhoum_rest(result) != SAYFUDHOUM_ALL_HOLD)
+        return 0;
+    result = sayfudhoum_judge(question, sizeof question, out, sizeof out);
+    return result == 256 && sayfudhoum_refusal(result) == 0 && sayfudhoum_rest(result) == 1
+        && sayfudhoum_judge(question, sizeof question, in, sizeof in - 1) == SAYFUDHOUM_BAD_MODEL;
+}
+
 int main(void)
 {
-    if (!counts_come_apart() || !clashes() || !goes_round())
+    if (!counts_come_apart() || !clashes() || !goes_round() || !judges())
         return 1;
 
     /* Case A, where nothing is declared or stated: possible, and its answer has 13 bytes. */

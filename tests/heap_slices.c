@@ -32,6 +32,12 @@ const uint8_t *lend_lines(const uint8_t *bytes, size_t length)
     return lend(&lines, bytes, length);
 }
 
+const uint8_t *lend_model(const uint8_t *bytes, size_t length)
+{
+    static uint8_t *model;
+    return lend(&model, bytes, length);
+}
+
 static struct lent {
     uint8_t *bytes;
     size_t length;

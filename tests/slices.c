@@ -43,6 +43,12 @@ const uint8_t *lend_lines(const uint8_t *bytes, size_t length)
     return lend(&area, bytes, length);
 }
 
+const uint8_t *lend_model(const uint8_t *bytes, size_t length)
+{
+    static uint8_t *area;
+    return lend(&area, bytes, length);
+}
+
 static struct lent {
     uint8_t *area;
     size_t start, end;       /* of the buffer in the area */

@@ -14,6 +14,7 @@ enum { LONGEST_SLICE = 131072 };
 /* A copy of the bytes whose last one stands right before a page that can't be read: one of each at the same time. */
 const uint8_t *lend_question(const uint8_t *bytes, size_t length);
 const uint8_t *lend_lines(const uint8_t *bytes, size_t length);
+const uint8_t *lend_model(const uint8_t *bytes, size_t length);
 
 /* What a buffer is for. One of each can be lent at the same time. */
 enum buffer { FOR_ANSWER, FOR_PART, FOR_INDEXES, FOR_CLAUSES, BUFFERS };

@@ -1,11 +1,16 @@
 /*
- * How much stack the five functions touch. Each is called in a thread whose stack was painted, and then
- * the lowest byte that has lost its paint is looked for. The header promises 32 KiB at most. The lines that
- * are read back are those of the question's first model, or `s UNSATISFIABLE` if it has none.
+ * How much stack the six functions touch. Each is called in a thread whose stack was painted, and then
+ * the lowest byte that has lost its paint is looked for. The header promises how much it is at most. The lines
+ * that are read back are those of the question's first model, or `s UNSATISFIABLE` if it has none. The model
+ * that is judged is the first one, or one element that is in no set.
+ *   A judge that kept a list of some set on the stack can't be told by a contract, since it gives the same. This
+ * test holds the stack of the call to its figure instead, and to what reading the question takes: to judge takes no
+ * more. For that a byte is put behind the question, which is refused when all of it was read and nothing was judged.
  */
 #define _POSIX_C_SOURCE 200809L /* pthread_attr_setstack */
 #include "files.h"
 #include "lines.h"
+#include "models.h"
 #include "sayfudhoum.h"
 #include "table.h"
 
@@ -14,16 +19,28 @@
 #include <stdlib.h>
 #include <string.h>
 
-enum { PROMISED = 32 * 1024, STACK = 128 * 1024, PAINT = 0xC3, RANDOM_FILES = 300 };
+enum { STACK = 128 * 1024, PAINT = 0xC3, RANDOM_FILES = 300 };
 
-enum function { ANSWER, VERDICT, CLASH, CLAUSES, SOLVED, FUNCTIONS };
-static const char *const names[FUNCTIONS] = {"sayfudhoum_answer", "sayfudhoum_verdict", "sayfudhoum_clash",
-                                             "sayfudhoum_clauses", "sayfudhoum_solved"};
+/* The bytes that are promised at most. */
+enum function { ANSWER, VERDICT, CLASH, CLAUSES, SOLVED, JUDGE, FUNCTIONS };
+static const struct {
+    const char *name;
+    size_t promised;
+} functions[FUNCTIONS] = {
+    [ANSWER] = {"sayfudhoum_answer", 32 * 1024},
+    [VERDICT] = {"sayfudhoum_verdict", 32 * 1024},
+    [CLASH] = {"sayfudhoum_clash", 32 * 1024},
+    [CLAUSES] = {"sayfudhoum_clauses", 32 * 1024},
+    [SOLVED] = {"sayfudhoum_solved", 32 * 1024},
+    [JUDGE] = {"sayfudhoum_judge", 2 * 1024},
+};
 
 /* What is not on the stack that is measured. */
 static uint8_t part[SAYFUDHOUM_MAX_QUESTION_LENGTH], indexes[SAYFUDHOUM_MAX_STATEMENTS];
 static uint8_t clauses[SAYFUDHOUM_MAX_CLAUSES_LENGTH];
 static struct text lines;
+static uint8_t judged[SAYFUDHOUM_MAX_MODEL_LENGTH];
+static size_t judged_length;
 
 struct call {
     enum function function;
@@ -50,8 +67,11 @@ static void *run(void *argument)
     case CLAUSES:
         sayfudhoum_clauses(call->file->bytes, call->file->length, clauses, sizeof clauses);
         break;
-    default:
+    case SOLVED:
         sayfudhoum_solved(call->file->bytes, call->file->length, lines.bytes, lines.length, answer, sizeof answer);
+        break;
+    default:
+        sayfudhoum_judge(call->file->bytes, call->file->length, judged, judged_length);
         break;
     }
     return NULL;
@@ -82,16 +102,14 @@ static size_t touched(enum function function, const struct file *file)
 }
 
 /* The lines of the first model, or those that say that there is none. A question that is refused has either. */
-static void make_lines(const struct file *file)
+static void make_lines(const struct file *file, const uint8_t *answer, size_t length)
 {
     struct question question;
     struct model model;
     struct values values;
-    uint8_t answer[SAYFUDHOUM_MAX_ANSWER_LENGTH];
-    uint64_t result = sayfudhoum_answer(file->bytes, file->length, answer, sizeof answer);
     lines.length = 0;
     if (read_question(file->bytes, file->length, &question) != 0
-        || read_answer(answer, sayfudhoum_rest(result), &question, &model) != 1) {
+        || read_answer(answer, length, &question, &model) != 1) {
         put_characters(&lines, "s UNSATISFIABLE\n");
         return;
     }
@@ -99,16 +117,34 @@ static void make_lines(const struct file *file)
     write_lines(&values, variables_of(&question), 12, &lines);
 }
 
-static size_t most[FUNCTIONS];
+/* The answer's model, or a good one that there is for every question. */
+static void make_model(const struct file *file, const uint8_t *answer, int possible)
+{
+    uint8_t elements = file->bytes[3];
+    memset(judged, 0, sizeof judged);
+    judged[0] = 1;
+    judged_length = possible ? model_in(answer, elements, judged) : 3u + elements;
+}
+
+static size_t most[FUNCTIONS], reading;
+
+static void keep_most(size_t *so_far, size_t bytes)
+{
+    if (bytes > *so_far)
+        *so_far = bytes;
+}
 
 static void measure(const struct file *file)
 {
-    make_lines(file);
-    for (int function = 0; function < FUNCTIONS; function++) {
-        size_t bytes = touched((enum function)function, file);
-        if (bytes > most[function])
-            most[function] = bytes;
-    }
+    uint8_t answer[SAYFUDHOUM_MAX_ANSWER_LENGTH];
+    uint64_t result = sayfudhoum_answer(file->bytes, file->length, answer, sizeof answer);
+    make_lines(file, answer, sayfudhoum_rest(result));
+    make_model(file, answer, sayfudhoum_refusal(result) == 0 && sayfudhoum_rest(result) > 7);
+    for (int function = 0; function < FUNCTIONS; function++)
+        keep_most(&most[function], touched((enum function)function, file));
+    struct file longer = *file;
+    longer.bytes[longer.length++] = 0;
+    keep_most(&reading, touched(JUDGE, &longer));
 }
 
 int main(void)
@@ -126,12 +162,12 @@ int main(void)
         random_file(&file);
         measure(&file);
     }
-    int failed = 0;
+    int failed = most[JUDGE] > reading;
     printf("bytes of stack:");
     for (int function = 0; function < FUNCTIONS; function++) {
-        printf("%s %s %zu", function == 0 ? "" : ",", names[function], most[function]);
-        failed |= most[function] > PROMISED;
+        printf("%s %s %zu", function == 0 ? "" : ",", functions[function].name, most[function]);
+        failed |= most[function] > functions[function].promised;
     }
-    printf("\n");
+    printf(", of which reading takes %zu\n", reading);
     return failed;
 }

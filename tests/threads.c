@@ -1,7 +1,8 @@
 /*
- * Several threads decide cases A to N, find their clashing parts and write their clauses at once, each with
- * buffers of its own; and each reads lines back for case I.
+ * Several threads decide cases A to N, find their clashing parts, write their clauses and judge their models at
+ * once, each with buffers of its own; and each reads lines back for case I.
  */
+#include "models.h"
 #include "sayfudhoum.h"
 #include "table.h"
 
@@ -74,13 +75,26 @@ static int solves(void)
     return sayfudhoum_refusal(result) == 0 && reads(answer, sayfudhoum_rest(result), example->answer);
 }
 
+/* The model of a possible case's answer, in which every statement holds; and, without its last byte, a bad one. */
+static int judges(const struct example *example)
+{
+    uint8_t question[SAYFUDHOUM_MAX_QUESTION_LENGTH], answer[SAYFUDHOUM_MAX_ANSWER_LENGTH];
+    uint8_t model[SAYFUDHOUM_MAX_MODEL_LENGTH];
+    size_t length = from_hex(example->question, question);
+    from_hex(example->answer, answer);
+    size_t count = model_in(answer, question[3], model);
+    return count == 0
+        || (sayfudhoum_judge(question, length, model, count) == 256 * SAYFUDHOUM_ALL_HOLD
+            && sayfudhoum_judge(question, length, model, count - 1) == SAYFUDHOUM_BAD_MODEL);
+}
+
 static void *work(void *argument)
 {
     struct worker *worker = argument;
     for (size_t i = 0; i < CALLS; i++) {
         size_t number = (worker->first + i) % EXAMPLES;
         const struct example *example = &examples[number];
-        if (!decides(example) || !finds(example) || !writes(number) || !solves())
+        if (!decides(example) || !finds(example) || !writes(number) || !solves() || !judges(example))
             worker->failed = example->name;
     }
     return NULL;
