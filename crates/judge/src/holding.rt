@@ -10,9 +10,9 @@ ghost use Rattle.statement.specs.Meaning.{everywhere, holds};
 ghost use Rattle.judge.specs.Models.{assignedBy};
 ghost use Rattle.judge.specs.Elements.{atElement};
 
-// What a statement about sets asks of one domain element: its mask is looked up once, and has all that is asked.
-fn at_element<'a>(n: usize, elements: &'a [u8], masks: &'a [u32], s: Statement, d: usize) -> bool
-    ensures { λ r. ⌜ r ≡ atElement (assignedBy n (now (elements .entry)) (now (masks .entry))) s d ⌝ }
+// What a statement about sets asks of one domain element, however many there are: its mask is looked up once, and has all that is asked.
+fn at_element<'a>(elements: &'a [u8], masks: &'a [u32], s: Statement, d: usize) -> bool
+    ensures { λ r. ⌜ r ≡ atElement (assignedBy 0 (now (elements .entry)) (now (masks .entry))) s d ⌝ }
 {
     let sets = mask(masks, d);
     match s {
@@ -36,7 +36,7 @@ fn at_each_element<'a>(n: usize, elements: &'a [u8], masks: &'a [u32], s: Statem
 {
     let mut d: usize = 0;
     while d < n {
-        if !at_element(n, elements, masks, s, d) {
+        if !at_element(elements, masks, s, d) {
             return false;
         }
         d += 1;

@@ -5,4 +5,5 @@ pub mod MeaningLaws
 pub mod Verdicts
 pub mod RoundTrips
 pub mod OwnModels
+pub mod Examples
 pub mod OneResultLaws
