@@ -8,7 +8,7 @@ use field::Frame;
 use outcome::Verdict;
 use question::Question;
 
-#[derive(Drop)]
+#[derive(Clone, Copy)]
 pub struct Answer {
     pub verdict: Verdict,
     pub arrangement: [u8; Question::MAX_TERMS],

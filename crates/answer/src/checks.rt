@@ -8,7 +8,7 @@ use crate::answers::Answer;
 use outcome::Verdict;
 use question::Question;
 
-#[derive(Drop)]
+#[derive(Clone, Copy)]
 pub enum ClassCount {
     // How many classes there are.
     Classes(usize),
@@ -16,7 +16,7 @@ pub enum ClassCount {
     Against,
 }
 
-#[derive(Drop)]
+#[derive(Clone, Copy)]
 pub enum AnswerCheck {
     // The answer may be written, and has so many classes.
     Good(usize),

@@ -1,4 +1,6 @@
 // The answer to a question as a value, its writer and its reader.
+#![tactic(auto)]
+
 mod answers;
 mod bodies;
 mod checks;

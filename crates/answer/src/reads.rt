@@ -11,7 +11,7 @@ use outcome::{Check, Refusal, Verdict};
 use question::{Question, check, terms};
 
 // Whether the file is accepted, and its answer. Where it is refused the answer is a filler, which never says "impossible".
-#[derive(Drop)]
+#[derive(Clone, Copy)]
 pub struct ReadAnswer {
     pub outcome: Check,
     pub answer: Answer,

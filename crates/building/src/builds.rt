@@ -8,7 +8,7 @@ use question::{Question, Record, admit, terms};
 use statement::Statement;
 
 // Whether the statement was added, and the question after the call; where it is refused, as it was.
-#[derive(Drop)]
+#[derive(Clone, Copy)]
 pub struct Built {
     pub outcome: Check,
     pub question: Question,

@@ -3,7 +3,7 @@
 ghost use Rattle.std.specs.Prelude.{◌≡◌, ◌≤◌, length};
 
 // Where the next group starts on the line, and where the bytes of this one end.
-#[derive(Drop)]
+#[derive(Clone, Copy)]
 pub struct Decoded {
     pub next: usize,
     pub total: usize,

@@ -1,5 +1,7 @@
 // Cases worked out by hand, run through the library. Standard input has one case a line, and what this prints is
 // compared with the file stdout: a line that starts with # is printed as it is, any other is a case and prints its outcome.
+#![tactic(auto)]
+
 ghost use Rattle.std.specs.Prelude.{◌≤◌, max, length};
 
 mod commands;

@@ -11,7 +11,7 @@ use question::Question;
 
 // Whether the question is decided; its clashing part as a question, and the old index of each statement in it; and the question's answer.
 // A possible question has a part without statements, and so has a refused one. Indexes past those of the part are 0.
-#[derive(Drop)]
+#[derive(Clone, Copy)]
 pub struct ClashingPart {
     pub outcome: Check,
     pub part: Question,

@@ -13,7 +13,7 @@ use outcome::{Check, Refusal, Written};
 use question::Question;
 use question_file::{read_question, write_question};
 
-#[derive(Drop)]
+#[derive(Clone, Copy)]
 pub enum ClashWritten {
     // How many bytes of the part, how many indexes and how many bytes of the answer were written.
     Counts(usize, usize, usize),

@@ -14,7 +14,7 @@ use decision::{Decision, decide};
 use outcome::Check;
 use question::{Question, check};
 
-#[derive(Drop)]
+#[derive(Clone, Copy)]
 pub struct Begun {
     pub decision: Decision,
     // Where the walk begins, if the question is impossible.

@@ -12,7 +12,7 @@ use outcome::Verdict;
 use question::Question;
 
 // The statements that are kept, as a question, and their old indexes; entries past those are 0.
-#[derive(Drop)]
+#[derive(Clone, Copy)]
 pub struct Kept {
     pub part: Question,
     pub indexes: [u8; Question::MAX_STATEMENTS],
@@ -20,7 +20,7 @@ pub struct Kept {
 
 // Where a walk begins: how many statements at the front are dropped already, from which index on the statements are known to be possible
 // (past the last one if that isn't known), and how many decisions are left.
-#[derive(Drop)]
+#[derive(Clone, Copy)]
 pub struct Start {
     pub from: usize,
     pub bound: usize,

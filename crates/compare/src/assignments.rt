@@ -6,7 +6,7 @@ use statement::{ElementName, SetName, Statement};
 
 // The domain element of each element name, with as much room as an arrangement has, and the part of each set name: bit d
 // says that domain element d is in it.
-#[derive(Drop)]
+#[derive(Clone, Copy)]
 pub struct Assignment {
     pub elements: [u8; 12],
     pub parts: [u16; 16],

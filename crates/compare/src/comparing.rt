@@ -10,7 +10,7 @@ use judge::Model;
 use outcome::{Check, Verdict};
 use question::Question;
 
-#[derive(Drop)]
+#[derive(Clone, Copy)]
 pub struct Tally {
     pub questions: u64,
     pub possible: u64,

@@ -47,7 +47,7 @@ fn statement(r: u64, elements: u8, sets: u8) -> Statement {
     }
 }
 
-#[derive(Drop)]
+#[derive(Clone, Copy)]
 pub struct Drawn {
     pub question: Question,
     pub state: u64,

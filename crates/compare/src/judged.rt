@@ -17,7 +17,7 @@ pub(crate) const ALL_HOLD: u64 = 64 * 256;
 pub(crate) const BAD_MODEL: u64 = 11;
 
 // The bit that is turned: in the mask of which domain element, and for which set.
-#[derive(Drop)]
+#[derive(Clone, Copy)]
 pub struct Bit {
     pub element: usize,
     pub set: usize,

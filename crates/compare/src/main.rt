@@ -1,5 +1,7 @@
 // The library compared with a second solver, on every question of a small shape and on questions drawn at random, and with
 // the stored verdicts of an outside solver. What this prints is compared with the file stdout.
+#![tactic(auto)]
+
 mod assignments;
 mod clashes;
 mod comparing;

@@ -7,7 +7,7 @@ use outcome::Check;
 use question_file::read_question;
 
 // Where the next line starts, and how many bytes this one has.
-#[derive(Drop)]
+#[derive(Clone, Copy)]
 struct Decoded {
     next: usize,
     total: usize,

@@ -9,7 +9,7 @@ use question::{Question, terms};
 use solved::{Solved, solve};
 
 // The value that is turned: 0 for that of a pair of terms, 1 for that of a term and a set, 2 for the spare, 3 for none.
-#[derive(Drop)]
+#[derive(Clone, Copy)]
 pub struct Turn {
     pub kind: u8,
     pub term: usize,
@@ -17,14 +17,14 @@ pub struct Turn {
 }
 
 // How far the lines have come: where the next byte goes, and which variable is the next.
-#[derive(Drop)]
+#[derive(Clone, Copy)]
 pub struct Pen {
     pub at: usize,
     pub variable: usize,
 }
 
 // How many classes stand, the class numbers of the terms so far, and the masks of the classes.
-#[derive(Drop)]
+#[derive(Clone, Copy)]
 pub struct Placed {
     pub used: u8,
     pub numbers: [u8; 12],

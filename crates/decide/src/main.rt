@@ -1,5 +1,7 @@
 // The program: a question file on standard input, and on standard output its answer, or the report of its refusal.
 // Everything that matters is in the library. No byte after the 395th alters what is read, so 4,096 are enough.
+#![tactic(auto)]
+
 use answer::Answer;
 use outcome::Written;
 use sayfudhoum::respond;

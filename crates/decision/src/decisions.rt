@@ -9,7 +9,7 @@ use reduction::write_rows;
 use search::{SearchAnswer, search};
 
 // Whether the question is decided, and its answer. Where it is refused the answer is a filler, which never says "impossible".
-#[derive(Drop)]
+#[derive(Clone, Copy)]
 pub struct Decision {
     pub outcome: Check,
     pub answer: Answer,

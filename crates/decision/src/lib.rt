@@ -1,4 +1,6 @@
 // A question value to its answer, decided and written: what every call above does with a question.
+#![tactic(auto)]
+
 mod answers;
 mod decisions;
 

@@ -1,6 +1,6 @@
 // How far the text of the clauses has come.
 
-#[derive(Drop)]
+#[derive(Clone, Copy)]
 pub(crate) struct Cursor {
     // Where the next byte goes.
     pub at: u32,
@@ -9,7 +9,7 @@ pub(crate) struct Cursor {
 }
 
 // The numbers of terms and sets of the table.
-#[derive(Drop)]
+#[derive(Clone, Copy)]
 pub(crate) struct Shape {
     pub terms: u8,
     pub sets: u8,

@@ -1,5 +1,7 @@
 // The clauses of a question as DIMACS text in a lent buffer: of a question value, and of question bytes.
 // One walk over the clauses serves twice: into a buffer of one byte it counts, into the lent one it writes.
+#![tactic(auto)]
+
 mod cursors;
 mod files;
 mod formulas;

@@ -7,13 +7,13 @@ use crate::tags::{File, length_of};
 use outcome::Refusal;
 
 // Which of the tags that a file knows may stand at a place.
-#[derive(Drop)]
+#[derive(Clone, Copy)]
 pub enum Due {
     Only(u8),
     AllBut(u8),
 }
 
-#[derive(Drop)]
+#[derive(Clone, Copy)]
 pub enum Frame {
     // The tag, and the length of the body.
     Sound(u8, usize),

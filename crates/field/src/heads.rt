@@ -2,7 +2,7 @@
 ghost use Rattle.std.specs.Prelude.{◌≡◌, get_or, drop};
 ghost use Rattle.field.specs.Heads.{head_of};
 
-#[derive(Drop)]
+#[derive(Clone, Copy)]
 pub enum Head {
     // Fewer than three bytes are there.
     Short,

@@ -1,4 +1,6 @@
 // What all files share: the one table of tags and body lengths, the frame of a field, and writing a field.
+#![tactic(auto)]
+
 mod frames;
 mod heads;
 mod tags;

@@ -3,7 +3,7 @@ ghost use Rattle.std.specs.Prelude.{◌≡◌, ◌<◌, length};
 ghost use Rattle.field.specs.Tags.{file_number, knows, known_of, length_of, is_known, is_allowed};
 
 // The kinds of files.
-#[derive(Drop)]
+#[derive(Clone, Copy)]
 pub enum File {
     Question,
     Answer,
@@ -12,14 +12,14 @@ pub enum File {
 }
 
 // The files in which a tag stands.
-#[derive(Drop)]
+#[derive(Clone, Copy)]
 pub enum Home {
     In(File),
     Every,
 }
 
 // What a file knows of a tag.
-#[derive(Drop)]
+#[derive(Clone, Copy)]
 pub enum BodyLength {
     // It does not know the tag.
     Unknown,
@@ -29,7 +29,7 @@ pub enum BodyLength {
 }
 
 // A tag, its body length, and the files in which it stands.
-#[derive(Drop)]
+#[derive(Clone, Copy)]
 pub struct Entry(pub u8, pub BodyLength, pub Home);
 
 const FIELDS: [Entry; 17] = [

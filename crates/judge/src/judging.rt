@@ -10,7 +10,7 @@ use crate::models::{Model, is_model};
 use outcome::{Check, Refusal};
 use question::{Question, check, statement_count};
 
-#[derive(Drop)]
+#[derive(Clone, Copy)]
 pub enum Judgement {
     // Every statement holds.
     Yes,

@@ -1,5 +1,7 @@
 // The judge: a question and any model, from whatever maker; yes, or the index of the first statement that fails.
 // It keeps no list of any set: each statement is tested straight from the masks, one domain element after another.
+#![tactic(auto)]
+
 mod holding;
 mod judging;
 mod models;

@@ -8,7 +8,7 @@ ghost use Rattle.judge.specs.Models.{elements_inside, masks_inside, is_model};
 use question::Question;
 use statement::{ElementName, SetName};
 
-#[derive(Drop)]
+#[derive(Clone, Copy)]
 pub struct Model {
     pub size: usize,
     pub elements: [u8; Question::MAX_TERMS],

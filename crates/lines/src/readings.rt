@@ -2,14 +2,14 @@
 use outcome::Check;
 
 // The value of a variable: whether it was said yet, and then whether it is true.
-#[derive(Drop)]
+#[derive(Clone, Copy)]
 pub struct Value {
     pub said: bool,
     pub truth: bool,
 }
 
 // What was read so far, which decides what may follow but for comments.
-#[derive(Drop)]
+#[derive(Clone, Copy)]
 pub enum Stage {
     // No line: `s SATISFIABLE` or `s UNSATISFIABLE` is due.
     Start,
@@ -23,7 +23,7 @@ pub enum Stage {
     Fault,
 }
 
-#[derive(Drop)]
+#[derive(Clone, Copy)]
 pub struct Reading {
     pub stage: Stage,
     pub values: [Value; Reading::VALUES],
@@ -38,7 +38,7 @@ impl Reading {
 }
 
 // Whether the lines can stand, and what they say; beside a refusal, the reading of no line.
-#[derive(Drop)]
+#[derive(Clone, Copy)]
 pub struct LinesRead {
     pub outcome: Check,
     pub reading: Reading,

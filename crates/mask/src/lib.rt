@@ -1,4 +1,6 @@
 // Rows that differ only in their term as one entry, and the smallest mask of a class of terms.
+#![tactic(auto)]
+
 mod bits;
 mod blames;
 mod entries;

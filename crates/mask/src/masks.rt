@@ -11,7 +11,7 @@ use crate::meetings::meets;
 use crate::notes::{back_to, note_up_to};
 use crate::trials::{Trial, next_mask};
 
-#[derive(Drop)]
+#[derive(Clone, Copy)]
 pub enum Smallest {
     At(u32),
     Nothing,

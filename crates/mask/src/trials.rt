@@ -4,7 +4,7 @@ ghost use Rattle.mask.specs.Trials.{TrialIs};
 
 use crate::bits::bit;
 
-#[derive(Drop)]
+#[derive(Clone, Copy)]
 pub(crate) enum Trial {
     // The next mask worth a trial is m raised at this bit.
     Next(u8),

@@ -1,4 +1,6 @@
 // A model as bytes beside a question: read, and judged. The judge is `judge`'s; here are only the bytes.
+#![tactic(auto)]
+
 mod files;
 mod reads;
 

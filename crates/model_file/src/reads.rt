@@ -10,7 +10,7 @@ use outcome::{Check, Refusal};
 use question::Question;
 
 // Whether the bytes have the length of their n, and the model that they say; else a model of nothing.
-#[derive(Drop)]
+#[derive(Clone, Copy)]
 pub struct ReadModel {
     pub outcome: Check,
     pub model: Model,

@@ -1,7 +1,7 @@
 // The result of a check: of a question's table, of rows, of a file that is read.
 use crate::refusals::Refusal;
 
-#[derive(Drop)]
+#[derive(Clone, Copy)]
 pub enum Check {
     Accepted,
     Refused(Refusal),

@@ -1,5 +1,5 @@
 // The verdict on a question.
-#[derive(Drop)]
+#[derive(Clone, Copy)]
 pub enum Verdict {
     Possible,
     Impossible,

@@ -1,7 +1,7 @@
 // The result of a call that writes into a lent buffer.
 use crate::refusals::Refusal;
 
-#[derive(Drop)]
+#[derive(Clone, Copy)]
 pub enum Written {
     // How many entries of the buffer were written: bytes, or rows.
     Count(usize),

@@ -7,7 +7,7 @@ use crate::questions::Question;
 use outcome::{Check, Refusal};
 use statement::{NameTest, Statement, name_test};
 
-#[derive(Drop)]
+#[derive(Clone, Copy)]
 pub enum Admission {
     Admitted,
     TooManyStatements,

@@ -4,12 +4,12 @@ ghost use Rattle.question.specs.Questions.{empty_question};
 
 use statement::{ElementName, Statement};
 
-#[derive(Drop)]
+#[derive(Clone, Copy)]
 pub struct Record {
     pub statement: Statement,
 }
 
-#[derive(Drop)]
+#[derive(Clone, Copy)]
 pub struct Question {
     pub elements: u8,
     pub sets: u8,

@@ -6,7 +6,7 @@ ghost use Rattle.outcome.specs.Padded.{padded};
 use field::{BodyLength, File, length_of};
 use statement::{ElementName, SetName, Statement};
 
-#[derive(Drop)]
+#[derive(Clone, Copy)]
 pub enum Made {
     Stated(Statement),
     // The tag is no statement's.

@@ -7,7 +7,7 @@ use field::{Due, File, Frame, byte_at, frame_at};
 use outcome::Refusal;
 use statement::Statement;
 
-#[derive(Drop)]
+#[derive(Clone, Copy)]
 pub enum Said {
     // E and S, and where the next field begins.
     Names(u8, u8, usize),

@@ -1,4 +1,6 @@
 // Question files: bytes to a question or a refusal, field by field, and a question to bytes.
+#![tactic(auto)]
+
 mod bodies;
 mod fields;
 mod reads;

@@ -9,7 +9,7 @@ use question::{Question, Record, check_names, may_add};
 use statement::witness_of;
 
 // Whether the file is accepted, and its question; where it is refused the question is empty.
-#[derive(Drop)]
+#[derive(Clone, Copy)]
 pub struct ReadQuestion {
     pub outcome: Check,
     pub question: Question,

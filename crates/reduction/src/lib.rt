@@ -1,4 +1,6 @@
 // The reduction: a question's rows, packed, from the start of a lent buffer.
+#![tactic(auto)]
+
 mod reducing;
 mod writing;
 

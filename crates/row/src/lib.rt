@@ -1,4 +1,6 @@
 // A row as one number of 20 bits: packing and unpacking, which rows have one test, and the check of rows that are handed in.
+#![tactic(auto)]
+
 mod checks;
 mod comparisons;
 mod parts;

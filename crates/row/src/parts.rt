@@ -2,7 +2,7 @@
 ghost use Rattle.std.specs.Prelude.{◌≡◌, ◌+◌, ◌*◌, ◌/◌, ◌%◌, ◌^◌, ◌≤◌, ◌<◌};
 ghost use Rattle.row.specs.Parts.{packed, parts_of};
 
-#[derive(Drop)]
+#[derive(Clone, Copy)]
 pub struct RowParts {
     pub kind: u8,
     pub term: u8,

@@ -1,4 +1,6 @@
 // The library: question bytes to a decision and to answer bytes, and the calls for C.
+#![tactic(auto)]
+
 mod exports;
 mod files;
 mod numbers;

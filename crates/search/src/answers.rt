@@ -5,7 +5,7 @@ ghost use Rattle.search.specs.Answers.{is_possible, without_model};
 use outcome::{Check, Verdict};
 use question::Question;
 
-#[derive(Drop)]
+#[derive(Clone, Copy)]
 pub struct SearchAnswer {
     // Why the rows are refused, if they are. What stands beside a refusal is a filler, which never says "impossible".
     pub outcome: Check,

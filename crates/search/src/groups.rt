@@ -8,7 +8,7 @@ ghost use Rattle.search.specs.Groups.{with_term, with_group, GroupsOf};
 use question::Question;
 
 // Groups that stand for classes: the terms of each, and how many groups there are.
-#[derive(Drop)]
+#[derive(Clone, Copy)]
 pub(crate) struct Groups {
     pub(crate) terms: [u32; Question::MAX_TERMS],
     pub(crate) count: u8,

@@ -24,6 +24,8 @@
 //
 // Whether mask(G) is there is asked once for each G, and kept in a memo. That what is not cut has a model isn't proved, and nothing
 // depends on it: another rule can come in at 4 with a law that where it says no, nothing is found.
+#![tactic(auto)]
+
 mod answers;
 mod asked;
 mod entries;

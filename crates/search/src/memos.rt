@@ -12,7 +12,7 @@ pub(crate) fn has_mask(entries: &[u64], memo: &mut [u8], group: u32, sets: u8) -
     requires memo { Memo entries.now sets memo.old }
     requires group_lt_group_count { group < group_count }
     ensures value { result ≡ is_there (mask_of_group entries.now sets group) }
-    ensures memo_2 { Memo entries.now sets memo.new }
+    ensures memo_after { Memo entries.now sets memo.new }
 {
     let at = group as usize;
     let note = memo[at];

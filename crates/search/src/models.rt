@@ -24,7 +24,7 @@ pub(crate) fn model(
     sets: u8,
 ) -> SearchAnswer
     requires sets_le_max_sets { sets ≤ max_sets }
-    requires t { T (all_rows (row_declared terms sets) (rows_of_entries entries.now)) }
+    requires declared { T (all_rows (row_declared terms sets) (rows_of_entries entries.now)) }
     requires placing { Placing arrangement terms groups.count }
     requires groups_of { GroupsOf arrangement terms groups.terms }
     ensures { result ≡ answer_of (model_of fits (2 ^ sets) (rows_of_entries entries.now) (take terms arrangement)) }

@@ -29,7 +29,7 @@ pub(crate) fn place(
     requires ready { Ready entries.now fixed memo.old unplaced }
     requires placing { Placing arrangement unplaced.term groups.count }
     requires groups_of { GroupsOf arrangement unplaced.term groups.terms }
-    requires t { T (all_rows (row_declared (all_terms unplaced) fixed.sets) (rows_of_entries entries.now)) }
+    requires declared { T (all_rows (row_declared (all_terms unplaced) fixed.sets) (rows_of_entries entries.now)) }
     ensures value { result ≡ answer_of (found entries.now fixed.sets arrangement unplaced.term unplaced.left) }
     ensures memo { Memo entries.now fixed.sets memo.new }
 {

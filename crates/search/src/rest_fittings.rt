@@ -17,7 +17,7 @@ fn each_has_mask(entries: &[u64], memo: &mut [u8], groups: Groups, sets: u8) -> 
     requires memo { Memo entries.now sets memo.old }
     requires are_groups { AreGroups groups }
     ensures some_lacks { result ≡ false → SomeLacks entries.now sets groups }
-    ensures memo_2 { Memo entries.now sets memo.new }
+    ensures memo_after { Memo entries.now sets memo.new }
 {
     let terms = groups.terms;
     let count = groups.count;
@@ -38,7 +38,7 @@ fn needs_a_group(entries: &[u64], memo: &mut [u8], fixed: Fixed, own: u32) -> bo
     requires memo { Memo entries.now fixed.sets memo.old }
     requires own_lt_group_count { own < group_count }
     ensures own_value { result ≡ true → mask_of_group entries.now fixed.sets own ≡ none }
-    ensures memo_2 { Memo entries.now fixed.sets memo.new }
+    ensures memo_after { Memo entries.now fixed.sets memo.new }
 {
     if fixed.asked & own != 0 {
         return false;

@@ -32,7 +32,7 @@ const GROUPS: usize = 1 << Question::MAX_TERMS;
 // Entries of declared rows: at first no term is placed, and the memo says nothing.
 fn search_entries(entries: &[u64], terms: usize, sets: u8) -> SearchAnswer
     requires terms_le_max_terms { (terms ≤ max_terms) × (sets ≤ max_sets) }
-    requires t { T (all_rows (row_declared terms sets) (rows_of_entries entries.now)) }
+    requires declared { T (all_rows (row_declared terms sets) (rows_of_entries entries.now)) }
     ensures { result ≡ answer_of (first_model fits terms (2 ^ sets) (rows_of_entries entries.now)) }
 {
     let mut memo: [u8; GROUPS] = [0; GROUPS];

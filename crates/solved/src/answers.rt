@@ -13,7 +13,7 @@ use lines::{Reading, Stage, read_lines};
 use outcome::{Check, Refusal, Verdict, Written};
 use question::{Question, check, terms};
 
-#[derive(Drop)]
+#[derive(Clone, Copy)]
 pub enum Solved {
     // How many bytes of the answer were written.
     Answered(usize),

@@ -11,7 +11,7 @@ use lines::Reading;
 use question::Question;
 
 // How many classes there are, the class number of each term, and the mask of each class. Entries past the counts are 0.
-#[derive(Drop)]
+#[derive(Clone, Copy)]
 pub struct SaidModel {
     pub classes: u8,
     pub arrangement: [u8; Question::MAX_TERMS],

@@ -4,7 +4,7 @@ ghost use Rattle.statement.specs.NameTests.{leftmost, name_test};
 
 use crate::statements::Statement;
 
-#[derive(Drop)]
+#[derive(Clone, Copy)]
 pub enum NameTest {
     Declared,
     // The position in the body of the leftmost name that is not declared.

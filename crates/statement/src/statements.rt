@@ -4,7 +4,7 @@ ghost use Rattle.statement.specs.Statements.{tag_of, witness};
 
 use crate::names::{ElementName, SetName};
 
-#[derive(Drop)]
+#[derive(Clone, Copy)]
 pub enum Statement {
     // 10: a = b
     ElementsEqual(ElementName, ElementName),

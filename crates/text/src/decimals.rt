@@ -11,7 +11,7 @@ const ZERO: u8 = 0x30;
 const NINE: u8 = 0x39;
 
 // What some bytes say, read as a number.
-#[derive(Drop)]
+#[derive(Clone, Copy)]
 pub(crate) enum Number {
     Said(usize),
     // They are no number, or one above the greatest that was asked for.

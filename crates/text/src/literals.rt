@@ -9,14 +9,14 @@ use crate::decimals::{Number, decimal_in, put_digits};
 // The byte of a minus.
 const MINUS: u8 = 0x2d;
 
-#[derive(Drop)]
+#[derive(Clone, Copy)]
 pub struct Literal {
     pub denied: bool,
     pub variable: usize,
 }
 
 // What a word says.
-#[derive(Drop)]
+#[derive(Clone, Copy)]
 pub enum Word {
     Says(Literal),
     // It is no literal, or its number is above the greatest that was asked for.
