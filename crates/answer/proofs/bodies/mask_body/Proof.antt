@@ -12,31 +12,31 @@ use Rattle.body.proofs.BodyLaws.{body_none, body_more}
 use Rattle.answer.proofs.bodies.mask_body.Statement.{statement}
 use Rattle.answer.proofs.bodies.mask_body.Tie as tie
 
-abbrev invariant-loop : tie.invariant-loop
+abbrev invariant-loop : tie.invariant-loop-k
 invariant-loop classes masks body₀ k₀ body k = (k ≤ classes) × (length body ≡ max_terms * mask_bytes) × (take (k * mask_bytes) body ≡ masks_body mask_bytes (take k masks))
 
-abbrev decreases-loop : tie.decreases-loop
+abbrev decreases-loop : tie.decreases-loop-k
 decreases-loop classes masks body₀ k₀ body k = classes - k
 
-loop-again : tie.Need-loop-preserved invariant-loop decreases-loop
+loop-again : tie.Need-loop-k-preserved invariant-loop decreases-loop
 loop-again c =
-    let l = c.before.before.before.before.loop in
-    let masks = c.before.before.before.before.before.args.t1 in
+    let l = c.loop-k in
+    let masks = c.args.t1 in
     let long : length masks ≡ 12 = search rules in
-    let less = c.before.before.before.loop-test.true in
+    let less = c.loop-k-test.true in
     let at = l.k * mask_bytes in
     let n = at + mask_bytes - at in
-    let part : length (take n (drop at l.body)) ≡ mask_bytes = simp (length-take, length-drop) (omega (arith, l.invariant.1, less, c.before.before.before.before.before.requires)) in
-    let stored : c.before.put-number.new.1.0 ≡ bytes_of mask_bytes (get_or masks l.k 0) = c.before.put-number.ensures ∙ ap (λ i. bytes_of i (get_or masks l.k 0)) part in (
+    let part : length (take n (drop at l.body)) ≡ mask_bytes = simp (length-take, length-drop) (omega (arith, l.invariant.1, less, c.requires)) in
+    let stored : c.put_number.new.buf ≡ bytes_of mask_bytes (get_or masks l.k 0) = c.put_number.ensures ∙ ap (λ i. bytes_of i (get_or masks l.k 0)) part in (
       omega (arith, less),
-      simp (length-append, length-take, length-drop) (omega (arith, ap length stored, bytes_length mask_bytes (get_or masks l.k 0), l.invariant.1, less, c.before.before.before.before.before.requires)),
-      rw stored (body_more mask_bytes masks (take at l.body) (drop n (drop at l.body)) l.k (omega (arith, less, c.before.before.before.before.before.requires)) l.invariant.2),
+      simp (length-append, length-take, length-drop) (omega (arith, ap length stored, bytes_length mask_bytes (get_or masks l.k 0), l.invariant.1, less, c.requires)),
+      rw stored (body_more mask_bytes masks (take at l.body) (drop n (drop at l.body)) l.k (omega (arith, less, c.requires)) l.invariant.2),
     )
 
 returns : tie.Need-returns invariant-loop decreases-loop
 returns c =
-    let l = c.before.loop in
-    let a = c.before.before.args in
+    let l = c.loop-k in
+    let a = c.args in
     let all : l.k ≡ a.classes = omega arith in
     rw all at l.invariant.2
 

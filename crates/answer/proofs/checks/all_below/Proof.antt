@@ -9,31 +9,31 @@ use Rattle.answer.proofs.CheckLaws.{below_more, below_fails, below_end}
 use Rattle.answer.proofs.checks.all_below.Statement.{statement}
 use Rattle.answer.proofs.checks.all_below.Tie as tie
 
-abbrev invariant-loop : tie.invariant-loop
+abbrev invariant-loop : tie.invariant-loop-k
 invariant-loop classes bound masks k₀ k = (k ≤ classes) × (all_below bound (take classes masks) ≡ all_below bound (drop k (take classes masks)))
 
-abbrev decreases-loop : tie.decreases-loop
+abbrev decreases-loop : tie.decreases-loop-k
 decreases-loop classes bound masks k₀ k = classes - k
 
-returns : tie.Need-returns invariant-loop decreases-loop
+returns : tie.Need-returns-then-bound-m invariant-loop decreases-loop
 returns c =
-    let l = c.before.before in
-    let a = l.before.args in
+    let l = c in
+    let a = l.args in
     let long : length a.t1 ≡ 12 = search rules in
-    sym (l.loop.invariant.1 ∙ below_fails a.t1 a.classes l.loop.k a.bound (omega arith) c.before.loop-test.true c.if1.true)
+    sym (l.loop-k.invariant.1 ∙ below_fails a.t1 a.classes l.loop-k.k a.bound (omega arith) c.loop-k-test.true c.if-bound-m.true)
 
-loop-again : tie.Need-loop-preserved invariant-loop decreases-loop
+loop-again : tie.Need-loop-k-preserved invariant-loop decreases-loop
 loop-again c =
-    let l = c.before.before in
-    let a = l.before.args in
+    let l = c in
+    let a = l.args in
     let long : length a.t1 ≡ 12 = search rules in
-    (omega arith, l.loop.invariant.1 ∙ below_more a.t1 a.classes l.loop.k a.bound (omega arith) c.before.loop-test.true c.if1.false)
+    (omega arith, l.loop-k.invariant.1 ∙ below_more a.t1 a.classes l.loop-k.k a.bound (omega arith) c.loop-k-test.true c.if-bound-m.false)
 
-returns-2 : tie.Need-returns-2 invariant-loop decreases-loop
+returns-2 : tie.Need-returns invariant-loop decreases-loop
 returns-2 c =
-    let l = c.before in
-    let a = l.before.args in
-    sym (l.loop.invariant.1 ∙ below_end a.t1 a.classes l.loop.k a.bound c.loop-test.false)
+    let l = c in
+    let a = l.args in
+    sym (l.loop-k.invariant.1 ∙ below_end a.t1 a.classes l.loop-k.k a.bound c.loop-k-test.false)
 
 pub all_below_spec : {M : Type 1} → statement M
 all_below_spec =

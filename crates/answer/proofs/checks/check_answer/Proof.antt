@@ -11,36 +11,36 @@ use Rattle.answer.proofs.checks.check_answer.Statement.{statement}
 use Rattle.answer.proofs.checks.check_answer.Tie as tie
 
 -- the classes that the call counted
-count : (c : tie.After-known-told) → let a = c.before.before.before.before.before.before.before.before.args in class_count (take a.terms a.a.arrangement) ≡ Classes c.before.classes.given.0.0
-count c = sym c.before.before.before.count-classes.ensures ∙ c.before.classes.given.1
+count : (c : tie.In-Classes) → let a = c.args in class_count (take a.terms a.a.arrangement) ≡ Classes c.in-Classes.classes
+count c = sym c.count_classes.ensures ∙ c.in-Classes.is
 
-all-below-requires : tie.Need-all-below-requires
+all-below-requires : tie.Need-all_below-requires
 all-below-requires c κs =
-    let a = c.before.before.before.before.before.before.before.before.args in
+    let a = c.args in
     let l = take a.terms a.a.arrangement in
     let k = counted l _ (count c) in
-    omega (arith, k.1, classes_few l k.0, length-take a.terms a.a.arrangement, c.before.before.before.before.before.before.before.before.requires)
+    omega (arith, k.1, classes_few l k.0, length-take a.terms a.a.arrangement, c.requires)
 
-returns : tie.Need-returns
+returns : tie.Need-returns-then-all_below
 returns c =
-    let k = c.before.before in
-    let a = k.before.before.before.before.before.before.before.before.args in
-    sym (check_masks a.bound a.terms a.a _ true k.before.before.before.before.before.before.enum-told2.given.1 (count k) (sym c.before.all-below.ensures ∙ c.if1.true))
+    let k = c in
+    let a = k.args in
+    sym (check_masks a.bound a.terms a.a _ true k.in-Possible.is (count k.before.before) (sym c.all_below.ensures ∙ c.if-all_below.true))
 
-returns-2 : tie.Need-returns-2
-returns-2 c = sym (check_none c.before.before.args.bound c.before.before.args.terms c.before.before.args.a c.enum_told.given.1)
+returns-2 : tie.Need-returns-in-Impossible
+returns-2 c = sym (check_none c.args.bound c.args.terms c.args.a c.in-Impossible.is)
 
-returns-3 : tie.Need-returns-3
+returns-3 : tie.Need-returns-in-Against
 returns-3 c =
-    let k = c.before.before in
-    let a = k.before.before.before.before.before.args in
-    sym (check_against a.bound a.terms a.a k.before.before.before.enum-told2.given.1 (sym k.count-classes.ensures ∙ c.enum-told3.given.1))
+    let k = c in
+    let a = k.args in
+    sym (check_against a.bound a.terms a.a k.in-Possible.is (sym k.count_classes.ensures ∙ c.in-Against.is))
 
-returns-4 : tie.Need-returns-4
+returns-4 : tie.Need-returns-else-all_below
 returns-4 c =
-    let k = c.before.before in
-    let a = k.before.before.before.before.before.before.before.before.args in
-    sym (check_masks a.bound a.terms a.a _ false k.before.before.before.before.before.before.enum-told2.given.1 (count k) (sym c.before.all-below.ensures ∙ c.if1.false))
+    let k = c in
+    let a = k.args in
+    sym (check_masks a.bound a.terms a.a _ false k.in-Possible.is (count k.before.before) (sym c.all_below.ensures ∙ c.if-all_below.false))
 
 pub check_answer_spec : {M : Type 1} → statement M
 check_answer_spec =

@@ -9,35 +9,35 @@ use Rattle.answer.proofs.CheckLaws.{count_from, next, count_more, count_against,
 use Rattle.answer.proofs.checks.count_classes.Statement.{statement}
 use Rattle.answer.proofs.checks.count_classes.Tie as tie
 
-abbrev invariant-loop : tie.invariant-loop
+abbrev invariant-loop : tie.invariant-loop-i
 invariant-loop terms numbers used₀ i₀ used i = (i ≤ terms) × (used ≤ i) × (class_count (take terms numbers) ≡ count_from used (drop i (take terms numbers)))
 
-abbrev decreases-loop : tie.decreases-loop
+abbrev decreases-loop : tie.decreases-loop-i
 decreases-loop terms numbers used₀ i₀ used i = terms - i
 
-returns : tie.Need-returns invariant-loop decreases-loop
+returns : tie.Need-returns-then-used-c invariant-loop decreases-loop
 returns c =
-    let l = c.before.before in
-    let a = l.before.args in
+    let l = c in
+    let a = l.args in
     let long : length a.t1 ≡ 12 = search rules in
-    sym (l.loop.invariant.2 ∙ count_against a.t1 a.terms l.loop.i l.loop.used (omega arith) c.before.loop-test.true c.if1.true)
+    sym (l.loop-i.invariant.2 ∙ count_against a.t1 a.terms l.loop-i.i l.loop-i.used (omega arith) c.loop-i-test.true c.if-used-c.true)
 
-loop-again : tie.Need-loop-preserved invariant-loop decreases-loop
+loop-again : tie.Need-loop-i-preserved invariant-loop decreases-loop
 loop-again c =
-    let l = c.before.before.before in
-    let a = l.before.args in
+    let l = c in
+    let a = l.args in
     let long : length a.t1 ≡ 12 = search rules in (
       omega arith,
-      omega (arith, c.after-class.ensures),
-      l.loop.invariant.2 ∙ count_more a.t1 a.terms l.loop.i l.loop.used (omega arith) c.before.before.loop-test.true c.before.if1.false
-          ∙ ap (λ n. count_from n (next a.t1 a.terms l.loop.i)) (sym c.after-class.ensures),
+      omega (arith, c.after_class-used.ensures),
+      l.loop-i.invariant.2 ∙ count_more a.t1 a.terms l.loop-i.i l.loop-i.used (omega arith) c.loop-i-test.true c.if-used-c.false
+          ∙ ap (λ n. count_from n (next a.t1 a.terms l.loop-i.i)) (sym c.after_class-used.ensures),
     )
 
-returns-2 : tie.Need-returns-2 invariant-loop decreases-loop
+returns-2 : tie.Need-returns invariant-loop decreases-loop
 returns-2 c =
-    let l = c.before in
-    let a = l.before.args in
-    sym (l.loop.invariant.2 ∙ count_end a.t1 a.terms l.loop.i l.loop.used c.loop-test.false)
+    let l = c in
+    let a = l.args in
+    sym (l.loop-i.invariant.2 ∙ count_end a.t1 a.terms l.loop-i.i l.loop-i.used c.loop-i-test.false)
 
 pub count_classes_spec : {M : Type 1} → statement M
 count_classes_spec =

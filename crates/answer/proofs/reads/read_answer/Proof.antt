@@ -13,21 +13,21 @@ use Rattle.answer.proofs.reads.read_answer.Statement.{statement}
 use Rattle.answer.proofs.reads.read_answer.Tie as tie
 
 -- the table is accepted
-table : (c : tie.After-enum-told) → checked c.before.before.before.before.args.q ≡ Accepted
-table c = sym c.before.before.check.ensures ∙ c.enum_told.given.1
+table : (c : tie.In-Accepted) → checked c.args.q ≡ Accepted
+table c = sym c.check.ensures ∙ c.in-Accepted.is
 
-returns : tie.Need-returns
+returns : tie.Need-returns-in-Refused
 unfolding read_answer
 returns c =
-    let k = c.before.before.before.before in
-    let a = k.before.before.args in
-    c.refuse-file.ensures ∙ sym (ap (λ x. accepted_then x refused_file (file_read (terms_of a.q) (mask_bound a.q) a.bytes.now)) (sym k.check.ensures ∙ c.before.before.refusal.given.1))
+    let k = c in
+    let a = k.args in
+    c.refuse_file.ensures ∙ sym (ap (λ x. accepted_then x refused_file (file_read (terms_of a.q) (mask_bound a.q) a.bytes.now)) (sym k.check.ensures ∙ c.in-Refused.is))
 
-returns-2 : tie.Need-returns-2
+returns-2 : tie.Need-returns-in-Accepted
 unfolding read_answer
 returns-2 c =
-    let m = c.before in
-    rw (table m.before.before, ← m.mask_bound.ensures, ← m.before.terms.ensures) c.read-file.ensures
+    let m = c in
+    rw (table m.before.before.before, ← m.mask_bound-bound.ensures, ← m.terms-total.ensures) c.read_file.ensures
 
 pub read_answer_spec : {M : Type 1} → statement M
 read_answer_spec =
@@ -39,6 +39,6 @@ read_answer_spec =
     (λ c. search rules)
     (λ c κs. search rules)
     (λ c κs. ((accepted _).0 (table c.before)).few_sets)
-    (λ c κs. omega (arith, c.before.terms.ensures, ((accepted _).0 (table c.before.before)).few_terms))
+    (λ c κs. omega (arith, c.terms-total.ensures, ((accepted _).0 (table c.before.before)).few_terms))
     returns
     returns-2)

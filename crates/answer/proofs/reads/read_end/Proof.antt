@@ -15,37 +15,36 @@ use Rattle.answer.proofs.reads.read_end.Statement.{statement}
 use Rattle.answer.proofs.reads.read_end.Tie as tie
 
 -- the frame is refused
-refused : (c : tie.After-known-told) → let a = c.before.before.before.before.before.args in due_frame 0x7f 0 (drop a.at a.bytes.now) ≡ BadFrame c.before.number.given.0.0
-refused c = sym c.before.before.before.frame_at.ensures ∙ c.before.number.given.1
+refused : (c : tie.In-Refused) → let a = c.args in due_frame 0x7f 0 (drop a.at a.bytes.now) ≡ BadFrame c.in-Refused.refusal
+refused c = sym c.frame_at.ensures ∙ c.in-Refused.is
 
-sound : (c : tie.After-known-told2) →
-    let a = c.before.before.before.before.before.args in
-    let n = c.before.n.given.0 in
-    due_frame 0x7f 0 (drop a.at a.bytes.now) ≡ Sound n.0 n.1.0
-sound c = sym c.before.before.before.frame_at.ensures ∙ c.before.n.given.1
+sound : (c : tie.In-Sound) →
+    let a = c.args in
+    due_frame 0x7f 0 (drop a.at a.bytes.now) ≡ Sound c.in-Sound.field-0 c.in-Sound.n
+sound c = sym c.frame_at.ensures ∙ c.in-Sound.is
 
 -- the field lies within the data
-room : (c : tie.After-known-told2) → let a = c.before.before.before.before.before.args in a.at + head_length + c.before.n.given.0.1.0 ≤ length a.bytes.now
+room : (c : tie.In-Sound) → let a = c.args in a.at + head_length + c.in-Sound.n ≤ length a.bytes.now
 room c =
-    let a = c.before.before.before.before.before.args in
+    let a = c.args in
     omega (arith, within AnswerFile (Only 0x7f) 0 a.bytes.now a.at _ _ (sound c))
 
-returns : tie.Need-returns
+returns : tie.Need-returns-then-end-bytes
 returns c =
-    let k = c.before.before in
-    let a = k.before.before.before.before.before.args in
-    c.refuse2.ensures ∙ sym (end_extra a.bytes.now a.at a.a _ _ (sound k) c.before.if1.true)
+    let k = c in
+    let a = k.args in
+    c.refuse-then-end-bytes.ensures ∙ sym (end_extra a.bytes.now a.at a.a _ _ (sound k.before.before) c.if-end-bytes.true)
 
-returns-2 : tie.Need-returns-2
+returns-2 : tie.Need-returns-in-Refused
 returns-2 c =
-    let a = c.before.before.before.before.before.before.args in
+    let a = c.args in
     c.refuse.ensures ∙ sym (end_refused a.bytes.now a.at a.a _ (refused c.before))
 
-returns-3 : tie.Need-returns-3
+returns-3 : tie.Need-returns-else-end-bytes
 returns-3 c =
-    let k = c.before in
-    let a = k.before.before.before.before.before.args in
-    sym (end_whole a.bytes.now a.at a.a _ _ (sound k) c.if1.false)
+    let k = c in
+    let a = k.args in
+    sym (end_whole a.bytes.now a.at a.a _ _ (sound k.before) c.if-end-bytes.false)
 
 pub read_end_spec : {M : Type 1} → statement M
 read_end_spec =

@@ -14,32 +14,31 @@ use Rattle.answer.proofs.reads.read_file.Statement.{statement}
 use Rattle.answer.proofs.reads.read_file.Tie as tie
 
 -- the frame is refused
-refused : (c : tie.After-known-told) → let a = c.before.before.before.before.before.args in due_frame 0x40 0 a.bytes.now ≡ BadFrame c.before.number.given.0.0
-refused c = sym c.before.before.before.frame_at.ensures ∙ c.before.number.given.1
+refused : (c : tie.In-Refused) → let a = c.args in due_frame 0x40 0 a.bytes.now ≡ BadFrame c.in-Refused.refusal
+refused c = sym c.frame_at.ensures ∙ c.in-Refused.is
 
-sound : (c : tie.After-known-told2) →
-    let a = c.before.before.before.before.before.args in
-    let n = c.before.n.given.0 in
-    due_frame 0x40 0 a.bytes.now ≡ Sound n.0 n.1.0
-sound c = sym c.before.before.before.frame_at.ensures ∙ c.before.n.given.1
+sound : (c : tie.In-Sound) →
+    let a = c.args in
+    due_frame 0x40 0 a.bytes.now ≡ Sound c.in-Sound.field-0 c.in-Sound.n
+sound c = sym c.frame_at.ensures ∙ c.in-Sound.is
 
-add_read_verdict : tie.Need-overflow-add-read-verdict
+add_read_verdict : tie.Need-overflow_add-body
 add_read_verdict c =
-    let a = c.before.before.before.before.before.before.args in
+    let a = c.args in
     omega (arith, within AnswerFile (Only 0x40) 0 a.bytes.now 0 _ _ (sound c.before))
 
-returns : tie.Need-returns
+returns : tie.Need-returns-in-Refused
 returns c =
-    let a = c.before.before.before.before.before.before.args in
+    let a = c.args in
     c.refuse.ensures ∙ sym (file_refused a.terms a.bound a.bytes.now _ (refused c.before))
 
-returns-2 : tie.Need-returns-2
+returns-2 : tie.Need-returns-in-Sound
 returns-2 c =
-    let k = c.before.before in
-    let a = k.before.before.before.before.before.args in
-    c.read-verdict.ensures
-    ∙ ap (λ v. verdict_read a.terms a.bound a.bytes.now v (head_length + k.before.n.given.0.1.0)) c.before.byte_at.ensures
-    ∙ sym (file_sound a.terms a.bound a.bytes.now _ _ (sound k))
+    let k = c in
+    let a = k.args in
+    c.read_verdict.ensures
+    ∙ ap (λ v. verdict_read a.terms a.bound a.bytes.now v (head_length + k.in-Sound.n)) c.byte_at-verdict.ensures
+    ∙ sym (file_sound a.terms a.bound a.bytes.now _ _ (sound k.before.before))
 
 pub read_file_spec : {M : Type 1} → statement M
 read_file_spec =

@@ -24,65 +24,64 @@ use Rattle.answer.proofs.reads.read_masks.Statement.{statement}
 use Rattle.answer.proofs.reads.read_masks.Tie as tie
 
 -- the frame is refused
-refused : (c : tie.After-known-told) → let a = c.before.before.before.before.before.args in due_frame 0x42 (a.classes * mask_bytes) (drop a.at a.bytes.now) ≡ BadFrame c.before.number.given.0.0
-refused c = sym c.before.before.before.frame_at.ensures ∙ c.before.number.given.1
+refused : (c : tie.In-Refused) → let a = c.args in due_frame 0x42 (a.classes * mask_bytes) (drop a.at a.bytes.now) ≡ BadFrame c.in-Refused.refusal
+refused c = sym c.frame_at.ensures ∙ c.in-Refused.is
 
-sound : (c : tie.After-known-told2) →
-    let a = c.before.before.before.before.before.args in
-    let n = c.before.n.given.0 in
-    due_frame 0x42 (a.classes * mask_bytes) (drop a.at a.bytes.now) ≡ Sound n.0 n.1.0
-sound c = sym c.before.before.before.frame_at.ensures ∙ c.before.n.given.1
+sound : (c : tie.In-Sound) →
+    let a = c.args in
+    due_frame 0x42 (a.classes * mask_bytes) (drop a.at a.bytes.now) ≡ Sound c.in-Sound.field-0 c.in-Sound.n
+sound c = sym c.frame_at.ensures ∙ c.in-Sound.is
 
 -- the field lies within the data, and has a mask for each class
-room : (c : tie.After-known-told2) →
-    let a = c.before.before.before.before.before.args in
-    let n = c.before.n.given.0.1.0 in
+room : (c : tie.In-Sound) →
+    let a = c.args in
+    let n = c.in-Sound.n in
     (a.at + head_length + n ≤ length a.bytes.now) × (n ≡ a.classes * mask_bytes)
 room c =
-    let a = c.before.before.before.before.before.args in
+    let a = c.args in
     let size = a.classes * mask_bytes in
     (omega (arith, within AnswerFile (Only 0x42) size a.bytes.now a.at _ _ (sound c)), due_length AnswerFile 0x42 size (drop a.at a.bytes.now) _ _ (sound c) size (masks_sized size))
 
 -- the masks that are read are those of the file
-masks : (c : tie.After-masks-in) →
-    let a = c.before.before.before.before.before.before.before.args in
-    c.masks-in.result ≡ padded max_terms (masks_in mask_bytes a.classes (drop (a.at + head_length) a.bytes.now))
+masks : (c : tie.After-masks_in-masks) →
+    let a = c.args in
+    c.masks_in-masks.result ≡ padded max_terms (masks_in mask_bytes a.classes (drop (a.at + head_length) a.bytes.now))
 masks c =
-    let k = c.before.before in
-    let s = k.before.before.before.before.before in
+    let k = c in
+    let s = k in
     let at = s.args.at + head_length in
-    let n = k.before.n.given.0.1.0 in
+    let n = k.in-Sound.n in
     let rest = drop at s.args.bytes.now in
-    let size : at + n - at ≡ s.args.classes * mask_bytes = omega (arith, (room k).1) in
-    c.masks-in.ensures ∙ ap (λ i. masks_of (take i rest)) size ∙ masks_part s.args.classes rest s.requires (simp length-drop (omega (arith, (room k).0, (room k).1)))
+    let size : at + n - at ≡ s.args.classes * mask_bytes = omega (arith, (room k.before.before).1) in
+    c.masks_in-masks.ensures ∙ ap (λ i. masks_of (take i rest)) size ∙ masks_part s.args.classes rest s.requires (simp length-drop (omega (arith, (room k.before.before).0, (room k.before.before).1)))
 
 -- and so are those that are tested
-tested : (c : tie.After-all-below) →
-    let a = c.before.before.before.before.before.before.before.before.args in
-    all_below a.bound (masks_in mask_bytes a.classes (drop (a.at + head_length) a.bytes.now)) ≡ c.all-below.result
+tested : (c : tie.After-all_below) →
+    let a = c.args in
+    all_below a.bound (masks_in mask_bytes a.classes (drop (a.at + head_length) a.bytes.now)) ≡ c.all_below.result
 tested c =
-    let a = c.before.before.before.before.before.before.before.before.args in
+    let a = c.args in
     let rest = drop (a.at + head_length) a.bytes.now in
-    sym (c.all-below.ensures ∙ ap (λ l. all_below a.bound (take a.classes l)) (masks c.before) ∙ ap (all_below a.bound) (take_padded max_terms (masks_in mask_bytes a.classes rest) a.classes (in_length mask_bytes a.classes rest)))
+    sym (c.all_below.ensures ∙ ap (λ l. all_below a.bound (take a.classes l)) (masks c.before) ∙ ap (all_below a.bound) (take_padded max_terms (masks_in mask_bytes a.classes rest) a.classes (in_length mask_bytes a.classes rest)))
 
-returns : tie.Need-returns
+returns : tie.Need-returns-then-not-all_below
 returns c =
-    let k = c.before.before.before.before.before in
-    let a = k.before.before.before.before.before.args in
-    c.refuse2.ensures ∙ sym (masks_bad a.bound a.bytes.now a.at a.numbers a.classes _ _ (sound k) (tested c.before.before ∙ not-true _ c.before.if1.true))
+    let k = c in
+    let a = k.args in
+    c.refuse-then-not-all_below.ensures ∙ sym (masks_bad a.bound a.bytes.now a.at a.numbers a.classes _ _ (sound k.before.before.before.before.before) (tested c.before.before ∙ not-true _ c.if-not-all_below.true))
 
-returns-2 : tie.Need-returns-2
+returns-2 : tie.Need-returns-in-Refused
 returns-2 c =
-    let a = c.before.before.before.before.before.before.args in
+    let a = c.args in
     c.refuse.ensures ∙ sym (masks_refused a.bound a.bytes.now a.at a.numbers a.classes _ (refused c.before))
 
-returns-3 : tie.Need-returns-3
+returns-3 : tie.Need-returns-else-not-all_below
 returns-3 c =
-    let k = c.before.before.before.before.before in
-    let a = k.before.before.before.before.before.args in
-    c.read-end.ensures
-    ∙ ap (λ l. end_read a.bytes.now (a.at + head_length + k.before.n.given.0.1.0) (record { verdict = Possible; arrangement = a.numbers; masks = l })) (masks c.before.before.before)
-    ∙ sym (masks_good a.bound a.bytes.now a.at a.numbers a.classes _ _ (sound k) (tested c.before.before ∙ not-false _ c.before.if1.false))
+    let k = c in
+    let a = k.args in
+    c.read_end.ensures
+    ∙ ap (λ l. end_read a.bytes.now (a.at + head_length + k.in-Sound.n) (record { verdict = Possible; arrangement = a.numbers; masks = l })) (masks c.before.before.before)
+    ∙ sym (masks_good a.bound a.bytes.now a.at a.numbers a.classes _ _ (sound k.before.before.before.before.before) (tested c.before.before ∙ not-false _ c.if-not-all_below.false))
 
 pub read_masks_spec : {M : Type 1} → statement M
 read_masks_spec =

@@ -24,82 +24,81 @@ use Rattle.answer.proofs.reads.read_numbers.Statement.{statement}
 use Rattle.answer.proofs.reads.read_numbers.Tie as tie
 
 -- the frame is refused
-refused : (c : tie.After-known-told) → let a = c.before.before.before.before.before.args in due_frame 0x41 a.terms (drop a.at a.bytes.now) ≡ BadFrame c.before.number.given.0.0
-refused c = sym c.before.before.before.frame_at.ensures ∙ c.before.number.given.1
+refused : (c : tie.In-Refused) → let a = c.args in due_frame 0x41 a.terms (drop a.at a.bytes.now) ≡ BadFrame c.in-Refused.refusal
+refused c = sym c.frame_at.ensures ∙ c.in-Refused.is
 
-sound : (c : tie.After-known-told2) →
-    let a = c.before.before.before.before.before.args in
-    let n = c.before.n.given.0 in
-    due_frame 0x41 a.terms (drop a.at a.bytes.now) ≡ Sound n.0 n.1.0
-sound c = sym c.before.before.before.frame_at.ensures ∙ c.before.n.given.1
+sound : (c : tie.In-Sound) →
+    let a = c.args in
+    due_frame 0x41 a.terms (drop a.at a.bytes.now) ≡ Sound c.in-Sound.field-0 c.in-Sound.n
+sound c = sym c.frame_at.ensures ∙ c.in-Sound.is
 
 -- the field lies within the data, and has a class number for each term
-room : (c : tie.After-known-told2) →
-    let a = c.before.before.before.before.before.args in
-    let n = c.before.n.given.0.1.0 in
+room : (c : tie.In-Sound) →
+    let a = c.args in
+    let n = c.in-Sound.n in
     (a.at + head_length + n ≤ length a.bytes.now) × (n ≡ a.terms)
 room c =
-    let a = c.before.before.before.before.before.args in
+    let a = c.args in
     let size = a.terms in
     (omega (arith, within AnswerFile (Only 0x41) size a.bytes.now a.at _ _ (sound c)), due_length AnswerFile 0x41 size (drop a.at a.bytes.now) _ _ (sound c) size (numbers_sized size))
 
-size : (c : tie.After-known-told2) → let a = c.before.before.before.before.before.args in length (take a.terms (drop (a.at + head_length) a.bytes.now)) ≡ a.terms
+size : (c : tie.In-Sound) → let a = c.args in length (take a.terms (drop (a.at + head_length) a.bytes.now)) ≡ a.terms
 size c =
-    let a = c.before.before.before.before.before.args in
+    let a = c.args in
     length-take-le a.terms (drop (a.at + head_length) a.bytes.now) (simp length-drop (omega (arith, (room c).0, (room c).1)))
 
 -- the class numbers that are read are those of the file
-numbers : (c : tie.After-numbers-in) →
-    let a = c.before.before.before.before.before.before.before.args in
-    c.numbers-in.result ≡ padded max_terms (take a.terms (drop (a.at + head_length) a.bytes.now))
+numbers : (c : tie.After-numbers_in-numbers) →
+    let a = c.args in
+    c.numbers_in-numbers.result ≡ padded max_terms (take a.terms (drop (a.at + head_length) a.bytes.now))
 numbers c =
-    let k = c.before.before in
-    let s = k.before.before.before.before.before in
+    let k = c in
+    let s = k in
     let at = s.args.at + head_length in
-    let n = k.before.n.given.0.1.0 in
+    let n = k.in-Sound.n in
     let rest = drop at s.args.bytes.now in
-    let all : at + n - at ≡ s.args.terms = omega (arith, (room k).1) in
-    c.numbers-in.ensures ∙ ap (λ i. numbers_of (take i rest)) all ∙ numbers_part s.args.terms rest s.requires
+    let all : at + n - at ≡ s.args.terms = omega (arith, (room k.before.before).1) in
+    c.numbers_in-numbers.ensures ∙ ap (λ i. numbers_of (take i rest)) all ∙ numbers_part s.args.terms rest s.requires
 
 -- and so are those that are counted
-count : (c : tie.After-count-classes) →
-    let a = c.before.before.before.before.before.before.before.before.args in
-    class_count (take a.terms (drop (a.at + head_length) a.bytes.now)) ≡ c.count-classes.result
+count : (c : tie.After-count_classes) →
+    let a = c.args in
+    class_count (take a.terms (drop (a.at + head_length) a.bytes.now)) ≡ c.count_classes.result
 count c =
-    let k = c.before.before.before in
-    let a = k.before.before.before.before.before.args in
+    let k = c in
+    let a = k.args in
     let l = take a.terms (drop (a.at + head_length) a.bytes.now) in
-    sym (c.count-classes.ensures ∙ ap (λ l. class_count (take a.terms l)) (numbers c.before) ∙ ap class_count (take_padded max_terms l a.terms (size k)))
+    sym (c.count_classes.ensures ∙ ap (λ l. class_count (take a.terms l)) (numbers c.before) ∙ ap class_count (take_padded max_terms l a.terms (size k.before.before.before)))
 
-read-masks-requires : tie.Need-read-masks-requires
+read-masks-requires : tie.Need-read_masks-requires
 read-masks-requires c κs =
-    let n = c.before.before.before in
-    let s = n.before.before.before.before.before.before.before.before in
+    let n = c in
+    let s = n in
     let l = take s.args.terms (drop (s.args.at + head_length) s.args.bytes.now) in
-    let k = counted l _ (count n ∙ c.before.classes.given.1) in
-    omega (arith, k.1, classes_few l k.0, size n.before.before.before, s.requires)
+    let k = counted l _ (count n.before.before.before ∙ c.in-Classes.is) in
+    omega (arith, k.1, classes_few l k.0, size n.before.before.before.before.before.before, s.requires)
 
-returns : tie.Need-returns
+returns : tie.Need-returns-in-Refused
 returns c =
-    let a = c.before.before.before.before.before.before.args in
+    let a = c.args in
     c.refuse.ensures ∙ sym (numbers_refused a.terms a.bound a.bytes.now a.at _ (refused c.before))
 
-returns-2 : tie.Need-returns-2
+returns-2 : tie.Need-returns-in-Against
 returns-2 c =
-    let n = c.before.before.before in
-    let a = n.before.before.before.before.before.before.before.before.args in
+    let n = c in
+    let a = n.args in
     let l = take a.terms (drop (a.at + head_length) a.bytes.now) in
-    c.refuse2.ensures ∙ sym (numbers_against a.terms a.bound a.bytes.now a.at _ _ (sound n.before.before.before) (against l (count n ∙ c.before.enum_told.given.1)))
+    c.refuse-in-Against.ensures ∙ sym (numbers_against a.terms a.bound a.bytes.now a.at _ _ (sound n.before.before.before.before.before.before) (against l (count n.before.before.before ∙ c.in-Against.is)))
 
-returns-3 : tie.Need-returns-3
+returns-3 : tie.Need-returns-in-Classes
 returns-3 c =
-    let n = c.before.before.before.before in
-    let f = n.before.before.before in
-    let a = f.before.before.before.before.before.args in
-    let k = counted (take a.terms (drop (a.at + head_length) a.bytes.now)) _ (count n ∙ c.before.before.classes.given.1) in
-    c.read-masks.ensures
-    ∙ ap₂ (masks_read a.bound a.bytes.now (a.at + head_length + f.before.n.given.0.1.0)) (numbers n.before) k.1
-    ∙ sym (numbers_good a.terms a.bound a.bytes.now a.at _ _ (sound f) k.0)
+    let n = c in
+    let f = n in
+    let a = f.args in
+    let k = counted (take a.terms (drop (a.at + head_length) a.bytes.now)) _ (count n.before.before.before.before ∙ c.in-Classes.is) in
+    c.read_masks.ensures
+    ∙ ap₂ (masks_read a.bound a.bytes.now (a.at + head_length + f.in-Sound.n)) (numbers n.before.before.before.before.before) k.1
+    ∙ sym (numbers_good a.terms a.bound a.bytes.now a.at _ _ (sound f.before.before.before.before.before.before.before) k.0)
 
 pub read_numbers_spec : {M : Type 1} → statement M
 read_numbers_spec =

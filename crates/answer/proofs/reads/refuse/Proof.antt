@@ -6,7 +6,7 @@ use Rattle.answer.proofs.reads.refuse.Statement.{statement}
 use Rattle.answer.proofs.reads.refuse.Tie as tie
 
 returns : tie.Need-returns
-returns c = c.refuse-file.ensures ∙ ap refused_file c.before.new.ensures
+returns c = c.refuse_file.ensures ∙ ap refused_file c.new-refusal.ensures
 
 pub refuse_spec : {M : Type 1} → statement M
 refuse_spec = tie.close (tie.spec (λ c κs. search rules) (λ c κs. search rules) returns)

@@ -16,40 +16,40 @@ use Rattle.body.proofs.BodyLaws.{body_length}
 use Rattle.answer.proofs.writes.file_length.Statement.{statement}
 use Rattle.answer.proofs.writes.file_length.Tie as tie
 
-ends : (c : tie.After-field-length2) → c.before.field-length.result + c.field-length2.result ≡ 7
-ends c = omega (arith, c.before.field-length.ensures, c.field-length2.ensures, verdict_length Possible, end_length)
+ends : (c : tie.After-field_length-2) → c.field_length.result + c.field_length-2.result ≡ 7
+ends c = omega (arith, c.field_length.ensures, c.field_length-2.ensures, verdict_length Possible, end_length)
 
 -- the class numbers of each term, and the masks of each class
-sizes : (c : tie.After-field-length4) →
-    let a = c.before.before.before.before.before.before.args in
+sizes : (c : tie.After-field_length-masks) →
+    let a = c.args in
     (length (take a.terms a.a.arrangement) ≡ a.terms) × (length (take a.classes a.a.masks) ≡ a.classes)
 sizes c =
-    let a = c.before.before.before.before.before.before.args in
+    let a = c.args in
     let numbers : length a.a.arrangement ≡ 12 = search rules in
     let masks : length a.a.masks ≡ 12 = search rules in
     (length-take-le a.terms a.a.arrangement (omega arith), length-take-le a.classes a.a.masks (omega arith))
 
-model : (c : tie.After-field-length4) → let a = c.before.before.before.before.before.before.args in c.before.field-length3.result + c.field-length4.result ≡ 6 + a.terms + a.classes * mask_bytes
+model : (c : tie.After-field_length-masks) → let a = c.args in c.field_length-numbers.result + c.field_length-masks.result ≡ 6 + a.terms + a.classes * mask_bytes
 model c =
-    let s = c.before.before.before.before.before.before in
+    let s = c in
     let a = s.args in
     let size = sizes c in
     let l = take a.terms a.a.arrangement in
     let ms = take a.classes a.a.masks in
-    let numbers : c.before.field-length3.result ≡ length (numbers_bytes l) = c.before.field-length3.ensures ∙ ap (field_length AnswerFile 0x41) (sym size.0) ∙ numbers_length l (omega (arith, size.0, s.requires.0)) in
-    let masks : c.field-length4.result ≡ length (masks_bytes ms) = c.field-length4.ensures ∙ ap (λ n. field_length AnswerFile 0x42 (n * mask_bytes)) (sym size.1) ∙ masks_length ms (omega (arith, size.1, s.requires.1)) in
+    let numbers : c.field_length-numbers.result ≡ length (numbers_bytes l) = c.field_length-numbers.ensures ∙ ap (field_length AnswerFile 0x41) (sym size.0) ∙ numbers_length l (omega (arith, size.0, s.requires.0)) in
+    let masks : c.field_length-masks.result ≡ length (masks_bytes ms) = c.field_length-masks.ensures ∙ ap (λ n. field_length AnswerFile 0x42 (n * mask_bytes)) (sym size.1) ∙ masks_length ms (omega (arith, size.1, s.requires.1)) in
     omega (arith, numbers, masks, size.0, size.1, body_length mask_bytes ms)
 
-returns : tie.Need-returns
+returns : tie.Need-returns-in-Impossible
 returns c =
-    let a = c.before.before.before.before.args in
-    ends c.before.before ∙ sym (ap (λ s. length (file_of s)) (said_none a.terms a.a c.enum_told.given.1) ∙ none_length)
+    let a = c.args in
+    ends c.before.before ∙ sym (ap (λ s. length (file_of s)) (said_none a.terms a.a c.in-Impossible.is) ∙ none_length)
 
-returns-2 : tie.Need-returns-2
+returns-2 : tie.Need-returns-in-Possible
 returns-2 c =
-    let s = c.before.before.before.before.before.before in
+    let s = c in
     let a = s.args in
-    let whole = ap (λ s. length (file_of s)) (said_some a.terms a.a a.classes c.before.before.enum-told2.given.1 s.requires.2) ∙ some_length (cut_to a.terms a.classes a.a) in
+    let whole = ap (λ s. length (file_of s)) (said_some a.terms a.a a.classes c.in-Possible.is s.requires.2) ∙ some_length (cut_to a.terms a.classes a.a) in
     omega (arith, ends c.before.before.before.before, model c, (sizes c).0, (sizes c).1, whole)
 
 pub file_length_spec : {M : Type 1} → statement M

@@ -18,60 +18,60 @@ use Rattle.answer.proofs.writes.put_answer.Statement.{statement}
 use Rattle.answer.proofs.writes.put_answer.Tie as tie
 
 -- field 40 is written
-begun : (c : tie.After-slice-known2) →
-    let p = c.before.before.put-field in let a = c.before.before.before.before.before.before.before.args in
+begun : (c : tie.After-slice_known-2-1) →
+    let p = c.put_field-first in let a = c.args in
     Run (file_of (said a.terms a.a)) a.buf.now (model_bytes (said a.terms a.a) ++ end_bytes) p.new.1.1.0 p.result
 unfolding file_of
 begun c =
-    let p = c.before.before.put-field in
-    let v = c.before.before.before.before.before in
-    let s = v.before.before in
+    let p = c.put_field-first in
+    let v = c in
+    let s = v in
     let a = s.args in
     let told = said a.terms a.a in
-    let byte : v.verdict-byte.result ≡ verdict_byte (verdict_of told) = v.verdict-byte.ensures ∙ ap verdict_byte (sym (said_verdict a.terms a.a)) in
+    let byte : v.verdict_byte.result ≡ verdict_byte (verdict_of told) = v.verdict_byte.ensures ∙ ap verdict_byte (sym (said_verdict a.terms a.a)) in
     let whole = written 0x40 (verdict_byte (verdict_of told) ∷ []) a.buf.now (omega arith) (omega (arith, s.requires.3)) in
     run_first (verdict_bytes (verdict_of told)) (model_bytes told ++ end_bytes) (p.ensures.0 ∙ ap (λ b. field_count (b ∷ []) (length a.buf.now)) byte ∙ whole.0) (p.ensures.1 ∙ ap (λ b. field_over 0x40 (b ∷ []) a.buf.now) byte ∙ whole.1)
 
 -- what follows fits behind it
-first_fits : (c : tie.After-slice-known2) →
-    let p = c.before.before.put-field in let a = c.before.before.before.before.before.before.before.args in
+first_fits : (c : tie.After-slice_known-2-1) →
+    let p = c.put_field-first in let a = c.args in
     (length p.new.1.1.0 ≡ length a.buf.now) × (p.result + (length (model_bytes (said a.terms a.a)) + 3) ≤ length p.new.1.1.0)
 first_fits c =
-    let s = c.before.before.before.before.before.before.before in
+    let s = c in
     let room = run_room (begun c) s.requires.3 in
     (room.0, omega (arith, room.0, room.1, s.requires.3, length-append (model_bytes (said s.args.terms s.args.a)) end_bytes))
 
 -- all but 7F is written
-most : (c : tie.After-slice-known3) →
-    let p = c.before.before.put-model in let f = c.before.before.before.before.before.before.put-field in
-    let a = c.before.before.before.before.before.before.before.before.before.before.before.args in
+most : (c : tie.After-slice_known-3-1) →
+    let p = c.put_model-middle in let f = c.put_field-first in
+    let a = c.args in
     Run (file_of (said a.terms a.a)) a.buf.now end_bytes (put_mid f.result (length f.new.1.1.0 - f.result) f.new.1.1.0 p.new.1.1.1.0) (f.result + p.result)
 most c =
-    let p = c.before.before.put-model in
-    let a = c.before.before.before.before.before.before.before.before.before.before.before.args in
+    let p = c.put_model-middle in
+    let a = c.args in
     rw p.ensures.0 (run_on (model_bytes (said a.terms a.a)) end_bytes p.new.1.1.1.0 (begun c.before.before.before.before) p.ensures.1)
 
 -- 7F fits behind it
-last_fits : (c : tie.After-slice-known3) →
-    let p = c.before.before.put-model in let f = c.before.before.before.before.before.before.put-field in
-    let a = c.before.before.before.before.before.before.before.before.before.before.before.args in
+last_fits : (c : tie.After-slice_known-3-1) →
+    let p = c.put_model-middle in let f = c.put_field-first in
+    let a = c.args in
     let buf = put_mid f.result (length f.new.1.1.0 - f.result) f.new.1.1.0 p.new.1.1.1.0 in
     (length buf ≡ length a.buf.now) × (f.result + p.result + 3 ≤ length buf)
 last_fits c =
-    let s = c.before.before.before.before.before.before.before.before.before.before.before in
+    let s = c in
     let room = run_room (most c) s.requires.3 in
     (room.0, omega (arith, room.0, room.1, s.requires.3))
 
 returns : tie.Need-returns
 returns c =
-    let p = c.before.before.put-field2 in
-    let m = c.before.before.before.before.before in
-    let f = m.before.before.before.before.before.before.put-field in
-    let buf = put_mid f.result (length f.new.1.1.0 - f.result) f.new.1.1.0 m.before.before.put-model.new.1.1.1.0 in
-    let at = f.result + m.before.before.put-model.result in
+    let p = c.put_field in
+    let m = c in
+    let f = m.put_field-first in
+    let buf = put_mid f.result (length f.new.1.1.0 - f.result) f.new.1.1.0 m.put_model-middle.new.buf in
+    let at = f.result + m.put_model-middle.result in
     let part = take (length buf - at) (drop at buf) in
-    let room : 3 ≤ length part = simp (length-take, length-drop) (omega (arith, (last_fits m).1)) in
-    (run_end (run_on end_bytes [] p.new.1.1.0 (most m) (p.ensures.1 ∙ (written 0x7f [] part (omega arith) (omega arith)).1))).1
+    let room : 3 ≤ length part = simp (length-take, length-drop) (omega (arith, (last_fits m.before.before.before.before.before.before).1)) in
+    (run_end (run_on end_bytes [] p.new.1.1.0 (most m.before.before.before.before.before.before) (p.ensures.1 ∙ (written 0x7f [] part (omega arith) (omega arith)).1))).1
 
 pub put_answer_spec : {M : Type 1} → statement M
 put_answer_spec =

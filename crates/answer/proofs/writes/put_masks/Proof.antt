@@ -13,20 +13,20 @@ use Rattle.body.proofs.BodyLaws.{body_length}
 use Rattle.answer.proofs.writes.put_masks.Statement.{statement}
 use Rattle.answer.proofs.writes.put_masks.Tie as tie
 
-slice_aggregate_put_field : tie.Need-slice-aggregate-put-field
+slice_aggregate_put_field : tie.Need-slice_bounds-put_field-end
 slice_aggregate_put_field c =
-    let body = c.before.mask-body.result in
+    let body = c.mask_body-body.result in
     let long : length body ≡ max_terms * mask_bytes = search rules in
-    sym (length-take-le (c.before.before.before.args.classes * mask_bytes) body (omega arith))
+    sym (length-take-le (c.args.classes * mask_bytes) body (omega arith))
 
 returns : tie.Need-returns
 returns c =
-    let m = c.before.before.before.before.before in
-    let a = m.before.before.args in
+    let m = c in
+    let a = m.args in
     let masks = take a.classes a.masks in
     let whole = written 0x42 (masks_body mask_bytes masks) a.buf.now (omega (arith, body_length mask_bytes masks, length-take a.classes a.masks)) (omega arith) in
-    let f = c.before.before.put-field.ensures in
-    (f.0 ∙ ap (λ b. field_count b (length a.buf.now)) m.mask-body.ensures ∙ whole.0 ∙ omega arith, f.1 ∙ ap (λ b. field_over 0x42 b a.buf.now) m.mask-body.ensures ∙ whole.1)
+    let f = c.put_field.ensures in
+    (f.0 ∙ ap (λ b. field_count b (length a.buf.now)) m.mask_body-body.ensures ∙ whole.0 ∙ omega arith, f.1 ∙ ap (λ b. field_over 0x42 b a.buf.now) m.mask_body-body.ensures ∙ whole.1)
 
 pub put_masks_spec : {M : Type 1} → statement M
 put_masks_spec =

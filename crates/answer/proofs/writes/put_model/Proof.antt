@@ -11,23 +11,23 @@ use Rattle.answer.proofs.writes.put_model.Statement.{statement}
 use Rattle.answer.proofs.writes.put_model.Tie as tie
 
 -- a possible answer has the bytes of its class numbers and masks
-possible : (c : tie.After-enum-told2) → let a = c.before.before.before.args in model_bytes (said a.terms a.a) ≡ solution_bytes (cut_to a.terms a.classes a.a)
+possible : (c : tie.In-Possible) → let a = c.args in model_bytes (said a.terms a.a) ≡ solution_bytes (cut_to a.terms a.classes a.a)
 possible c =
-    let s = c.before.before.before in
-    ap model_bytes (said_some s.args.terms s.args.a s.args.classes c.enum-told2.given.1 s.requires.2) ∙ model_some _
+    let s = c in
+    ap model_bytes (said_some s.args.terms s.args.a s.args.classes c.in-Possible.is s.requires.2) ∙ model_some _
 
-returns : tie.Need-returns
+returns : tie.Need-returns-in-Impossible
 returns c =
-    let a = c.before.before.before.args in
-    let none = ap model_bytes (said_none a.terms a.a c.enum_told.given.1) ∙ model_none in
+    let a = c.args in
+    let none = ap model_bytes (said_none a.terms a.a c.in-Impossible.is) ∙ model_none in
     (sym (ap length none), sym (ap (λ l. over l a.buf.now) none))
 
-returns-2 : tie.Need-returns-2
+returns-2 : tie.Need-returns-in-Possible
 returns-2 c =
-    let k = c.before.before.before.before in
-    let a = k.before.before.before.args in
-    let p = c.before.before.put-solution.ensures in
-    (p.0 ∙ sym (ap length (possible k)), p.1 ∙ sym (ap (λ l. over l a.buf.now) (possible k)))
+    let k = c in
+    let a = k.args in
+    let p = c.put_solution.ensures in
+    (p.0 ∙ sym (ap length (possible k.before.before.before.before)), p.1 ∙ sym (ap (λ l. over l a.buf.now) (possible k.before.before.before.before)))
 
 pub put_model_spec : {M : Type 1} → statement M
 put_model_spec =
@@ -35,7 +35,7 @@ put_model_spec =
     (tie.spec
     (λ c. search rules)
     (λ c. search rules)
-    (λ c κs. let s = c.before.before.before.before in (s.requires.0, s.requires.1, omega (arith, ap length (possible c.before), s.requires.3)))
+    (λ c κs. let s = c in (s.requires.0, s.requires.1, omega (arith, ap length (possible c.before), s.requires.3)))
     returns
     (λ c. search rules)
     returns-2)

@@ -10,12 +10,12 @@ use Rattle.answer.proofs.writes.put_solution.Statement.{statement}
 use Rattle.answer.proofs.writes.put_solution.Tie as tie
 
 -- field 42 fits behind field 41
-fits : (c : tie.After-slice-known2) →
-    let p = c.before.before.put-numbers in let a = c.before.before.before.before.before.before.before.args in
+fits : (c : tie.After-slice_known-2-1) →
+    let p = c.put_numbers-first in let a = c.args in
     (length p.new.1.1.0 ≡ length a.buf.now) × (p.result + length (masks_bytes (take a.classes a.a.masks)) ≤ length p.new.1.1.0)
 fits c =
-    let p = c.before.before.put-numbers in
-    let s = c.before.before.before.before.before.before.before in
+    let p = c.put_numbers-first in
+    let s = c in
     let a = s.args in
     let first = numbers_bytes (take a.terms a.a.arrangement) in
     let both = length-append first (masks_bytes (take a.classes a.a.masks)) in
@@ -30,9 +30,9 @@ first_fits c =
 
 returns : tie.Need-returns
 returns c =
-    let m = c.before.before.put-masks in
-    let p = c.before.before.before.before.before.before.put-numbers in
-    let a = c.before.before.before.before.before.before.before.before.before.before.before.args in
+    let m = c.put_masks-second in
+    let p = c.put_numbers-first in
+    let a = c.args in
     let first = numbers_bytes (take a.terms a.a.arrangement) in
     let second = masks_bytes (take a.classes a.a.masks) in
     (omega (arith, p.ensures.0, m.ensures.0, length-append first second), behind first second a.buf.now p.new.1.1.0 m.new.1.1.0 p.result p.ensures.0 p.ensures.1 m.ensures.1)
@@ -41,11 +41,11 @@ pub put_solution_spec : {M : Type 1} → statement M
 put_solution_spec =
     tie.close
     (tie.spec
-    (λ c κs. (c.before.before.before.before.requires.0, first_fits c.before.before.before.before))
+    (λ c κs. (c.requires.0, first_fits c.before.before.before.before))
     (λ c. omega (arith, (fits c).1))
     (λ c. omega (arith, (fits c).1))
     (λ c. search rules)
     (λ c κs. (search rules, simp (length-take, length-drop) (omega (arith, (fits c.before).1))))
-    (λ c. let f = fits c.before.before.before.before in omega (arith, f.0, f.1, c.before.before.put-masks.ensures.0))
+    (λ c. let f = fits c.before.before.before.before in omega (arith, f.0, f.1, c.put_masks-second.ensures.0))
     (λ c. search rules)
     returns)

@@ -15,25 +15,25 @@ use Rattle.answer.proofs.writes.write_answer.Statement.{statement}
 use Rattle.answer.proofs.writes.write_answer.Tie as tie
 
 -- the table is accepted
-table : (c : tie.After-enum-told) → checked c.before.before.before.before.args.q ≡ Accepted
-table c = sym c.before.before.check.ensures ∙ c.enum_told.given.1
+table : (c : tie.In-Accepted) → checked c.args.q ≡ Accepted
+table c = sym c.check.ensures ∙ c.in-Accepted.is
 
-returns : tie.Need-returns
+returns : tie.Need-returns-in-Refused
 unfolding written written_over
 returns c =
-    let a = c.before.before.before.before.before.args in
-    let r = sym c.before.before.before.check.ensures ∙ c.before.refusal.given.1 in
+    let a = c.args in
+    let r = sym c.check.ensures ∙ c.in-Refused.is in
     let s = said (terms_of a.q) a.a in
     (sym (ap (λ x. checked_then x (good_written (mask_bound a.q) s (length a.buf.now))) r), sym (ap (λ x. checked_over x (good_over (mask_bound a.q) s a.buf.now) a.buf.now) r))
 
-returns-2 : tie.Need-returns-2
+returns-2 : tie.Need-returns-in-Accepted
 unfolding written written_over
 returns-2 c =
-    let w = c.before.before.write-good.ensures in
-    let m = c.before.before.before.before in
-    let k = m.before.before in
-    let a = k.before.before.before.before.args in
-    rw (table k, ← m.mask_bound.ensures, ← m.before.terms.ensures) (w.0, w.1)
+    let w = c.write_good.ensures in
+    let m = c in
+    let k = m in
+    let a = k.args in
+    rw (table k.before.before.before.before.before.before, ← m.mask_bound-bound.ensures, ← m.terms-total.ensures) (w.0, w.1)
 
 pub write_answer_spec : {M : Type 1} → statement M
 write_answer_spec =
@@ -44,7 +44,7 @@ write_answer_spec =
     (λ c. search rules)
     (λ c κs. search rules)
     (λ c κs. ((accepted _).0 (table c.before)).few_sets)
-    (λ c κs. omega (arith, c.before.before.terms.ensures, ((accepted _).0 (table c.before.before.before)).few_terms))
+    (λ c κs. omega (arith, c.terms-total.ensures, ((accepted _).0 (table c.before.before.before)).few_terms))
     returns
     (λ c. search rules)
     returns-2)

@@ -10,19 +10,19 @@ use Rattle.answer.specs.Bytes.{file_of}
 use Rattle.answer.proofs.writes.write_fitting.Statement.{statement}
 use Rattle.answer.proofs.writes.write_fitting.Tie as tie
 
-returns : tie.Need-returns
+returns : tie.Need-returns-then-buf-length
 returns c =
-    let f = c.before.before in
-    let a = f.before.before.args in
-    let short = lt-ltb (length a.buf.now) (length (file_of (said a.terms a.a))) (omega (arith, f.file_length.ensures, c.before.if1.true)) in
+    let f = c in
+    let a = f.args in
+    let short = lt-ltb (length a.buf.now) (length (file_of (said a.terms a.a))) (omega (arith, f.file_length-length.ensures, c.if-buf-length.true)) in
     rw short (ap Refused c.new.ensures, refl)
 
-returns-2 : tie.Need-returns-2
+returns-2 : tie.Need-returns
 returns-2 c =
-    let f = c.before.before.before.before.before in
-    let a = f.before.before.args in
-    let room = le-ltb (length a.buf.now) (length (file_of (said a.terms a.a))) (omega (arith, f.file_length.ensures, c.before.before.before.before.if1.false)) in
-    rw room (ap Count f.file_length.ensures, c.before.before.put-answer.ensures)
+    let f = c in
+    let a = f.args in
+    let room = le-ltb (length a.buf.now) (length (file_of (said a.terms a.a))) (omega (arith, f.file_length-length.ensures, c.if-buf-length.false)) in
+    rw room (ap Count f.file_length-length.ensures, c.put_answer.ensures)
 
 pub write_fitting_spec : {M : Type 1} → statement M
 write_fitting_spec = tie.close (tie.spec (λ c κs. search rules) (λ c κs. search rules) returns (λ c κs. search rules) (λ c. search rules) returns-2)

@@ -9,28 +9,28 @@ use Rattle.answer.proofs.GoodLaws.{is_good_lem, is_bad, good_few}
 use Rattle.answer.proofs.writes.write_good.Statement.{statement}
 use Rattle.answer.proofs.writes.write_good.Tie as tie
 
-write-fitting-requires : tie.Need-write-fitting-requires
+write-fitting-requires : tie.Need-write_fitting-requires
 write-fitting-requires c κs =
-    let k = c.before.before.before.before in
-    let s = k.before.before in
+    let k = c in
+    let s = k in
     let a = s.args in
-    let good = is_good_lem a.bound (said a.terms a.a) _ (sym k.check-answer.ensures ∙ c.before.before.classes.given.1) in
+    let good = is_good_lem a.bound (said a.terms a.a) _ (sym k.check_answer.ensures ∙ c.in-Good.is) in
     (s.requires, omega (arith, good.1, good_few a.bound a.terms a.a good.0, s.requires), good.1)
 
-returns : tie.Need-returns
+returns : tie.Need-returns-in-Bad
 unfolding good_written good_over
 returns c =
-    let k = c.before.before.before in
-    let a = k.before.before.args in
-    rw (is_bad a.bound (said a.terms a.a) (sym k.check-answer.ensures ∙ c.before.enum_told.given.1)) (ap Refused c.new.ensures, refl)
+    let k = c in
+    let a = k.args in
+    rw (is_bad a.bound (said a.terms a.a) (sym k.check_answer.ensures ∙ c.in-Bad.is)) (ap Refused c.new.ensures, refl)
 
-returns-2 : tie.Need-returns-2
+returns-2 : tie.Need-returns-in-Good
 unfolding good_written good_over
 returns-2 c =
-    let k = c.before.before.before.before.before.before.before in
-    let a = k.before.before.args in
-    let w = c.before.before.write-fitting.ensures in
-    rw (is_good_lem a.bound (said a.terms a.a) _ (sym k.check-answer.ensures ∙ c.before.before.before.before.before.classes.given.1)).0 (w.0, w.1)
+    let k = c in
+    let a = k.args in
+    let w = c.write_fitting.ensures in
+    rw (is_good_lem a.bound (said a.terms a.a) _ (sym k.check_answer.ensures ∙ c.in-Good.is)).0 (w.0, w.1)
 
 pub write_good_spec : {M : Type 1} → statement M
 write_good_spec =

@@ -13,19 +13,19 @@ use Rattle.body.proofs.bodies.mask_at.Tie as tie
 
 returns : tie.Need-returns
 returns c =
-    let a = c.before.before.before.args in
+    let a = c.args in
     let rest = drop a.at a.body.now in
     let few : a.at + mask_bytes - a.at ≡ mask_bytes = omega arith in
     c.number_in.ensures
     ∙ ap number_in (take_all most_bytes (take (a.at + mask_bytes - a.at) rest) (omega (arith, length-take (a.at + mask_bytes - a.at) rest)))
     ∙ ap (λ i. number_in (take i rest)) few
 
-small : (c : tie.After-number-in) → c.number_in.result < 256 ^ mask_bytes
+small : (c : tie.After-number_in) → c.number_in.result < 256 ^ mask_bytes
 small c =
-    let s = c.before.before.before in
+    let s = c in
     let rest = drop s.args.at s.args.body.now in
     let size : length (take mask_bytes rest) ≡ mask_bytes = length-take-le mask_bytes rest (simp length-drop (omega (arith, s.requires))) in
-    let below = number_below (take mask_bytes rest) (bytes_take mask_bytes rest (bytes_drop s.args.at s.args.body.now (λ i less. omega (arith, c.before.before.shared-slice-known.given i)))) in
+    let below = number_below (take mask_bytes rest) (bytes_take mask_bytes rest (bytes_drop s.args.at s.args.body.now (λ i less. omega (arith, c.shared_slice_known-1.given i)))) in
     rw (returns c) (rw size at below)
 
 pub mask_at_spec : {M : Type 1} → statement M

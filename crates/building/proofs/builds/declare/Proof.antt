@@ -6,7 +6,7 @@ use Rattle.building.proofs.builds.declare.Statement.{statement}
 use Rattle.building.proofs.builds.declare.Tie as tie
 
 returns : tie.Need-returns
-returns c = ap (λ x. record { elements = c.before.args.elements; sets = c.before.args.sets; count = x.count; table = x.table }) (c.empty.ensures ∙ sym declaring_none)
+returns c = ap (λ x. record { elements = c.args.elements; sets = c.args.sets; count = x.count; table = x.table }) (c.empty-q.ensures ∙ sym declaring_none)
 
 pub declare_spec : {M : Type 1} → statement M
 declare_spec = tie.close (tie.spec (λ c κs. search rules) returns)

@@ -13,44 +13,44 @@ use Rattle.question.proofs.BuildLaws.{kept_of, kept_none, kept_before, kept_behi
 use Rattle.building.proofs.builds.drop_statements.Statement.{statement}
 use Rattle.building.proofs.builds.drop_statements.Tie as tie
 
-abbrev invariant-loop : tie.invariant-loop
+abbrev invariant-loop : tie.invariant-loop-j
 invariant-loop i n q count rest₀ j₀ rest j = (j ≤ 64) × (rest.count ≤ j) × ((long : length q.table ≡ max_statements) → rest ≡ kept_of q i n long j)
 
-abbrev decreases-loop : tie.decreases-loop
+abbrev decreases-loop : tie.decreases-loop-j
 decreases-loop i n q count rest₀ j₀ rest j = 64 - j
 
 -- whatever the run is, the statement at a turn is copied, or left out
-loop-again : tie.Need-loop-preserved invariant-loop decreases-loop
+loop-again : tie.Need-loop-j-preserved invariant-loop decreases-loop
 loop-again c =
-    let l = c.before.before.before.before in
-    let q = l.before.before.args.t1 in
-    let i = l.before.before.args.i in
-    let n = l.before.before.args.n in
-    let j = l.loop.j in
-    let below = c.before.before.if1.false in
-    let inside = c.before.before.before.loop-test.true in
-    let run = c.before.outside.ensures in (
+    let l = c in
+    let q = l.args.t1 in
+    let i = l.args.i in
+    let n = l.args.n in
+    let j = l.loop-j.j in
+    let below = c.if-count-j.false in
+    let inside = c.loop-j-test.true in
+    let run = c.outside.ensures in (
       omega arith,
-      ⊎_elim (λ x. omega (arith, ap (λ r. r.count) x.2)) (λ x. omega (arith, ap (λ r. r.count) x.1)) c.if2.branch,
+      ⊎_elim (λ x. omega (arith, ap (λ r. r.count) x.2)) (λ x. omega (arith, ap (λ r. r.count) x.1)) c.if-outside.branch-raw,
       λ long. ⊎_elim
-          (λ x. x.2 ∙ ap (λ r. added r (get_or q.table j idle).statement) (l.loop.invariant.2 long) ∙ ⊎_elim (kept_before q i n long j idle below inside) (kept_behind q i n long j idle below inside) (run.0 x.0.taken))
-          (λ x. let within = run.1 x.0.left in x.1 ∙ l.loop.invariant.2 long ∙ kept_inside q i n long j idle below inside within.0 within.1)
-          c.if2.branch,
+          (λ x. x.2 ∙ ap (λ r. added r (get_or q.table j idle).statement) (l.loop-j.invariant.2 long) ∙ ⊎_elim (kept_before q i n long j idle below inside) (kept_behind q i n long j idle below inside) (run.0 x.0.taken))
+          (λ x. let within = run.1 x.0.left in x.1 ∙ l.loop-j.invariant.2 long ∙ kept_inside q i n long j idle below inside within.0 within.1)
+          c.if-outside.branch-raw,
     )
 
-returns : tie.Need-returns invariant-loop decreases-loop
+returns : tie.Need-returns-after-loop-j invariant-loop decreases-loop
 returns c =
-    let l = c.before in
-    let q = l.before.before.args.t1 in
+    let l = c in
+    let q = l.args.t1 in
     let long : length q.table ≡ 64 = search table_long in
-    l.loop.invariant.2 long ∙ kept_all q l.before.before.args.i l.before.before.args.n long l.loop.j (omega (arith, statements_length q, long))
+    l.loop-j.invariant.2 long ∙ kept_all q l.args.i l.args.n long l.loop-j.j (omega (arith, statements_length q, long))
 
-returns-2 : tie.Need-returns-2 invariant-loop decreases-loop
+returns-2 : tie.Need-returns-then-count-j invariant-loop decreases-loop
 returns-2 c =
-    let l = c.before.before in
-    let q = l.before.before.args.t1 in
+    let l = c in
+    let q = l.args.t1 in
     let long : length q.table ≡ 64 = search table_long in
-    l.loop.invariant.2 long ∙ kept_all q l.before.before.args.i l.before.before.args.n long l.loop.j (omega (arith, statements_length q, c.if1.true))
+    l.loop-j.invariant.2 long ∙ kept_all q l.args.i l.args.n long l.loop-j.j (omega (arith, statements_length q, c.if-count-j.true))
 
 pub drop_statements_spec : {M : Type 1} → statement M
 drop_statements_spec =
@@ -59,7 +59,7 @@ drop_statements_spec =
     invariant-loop
     decreases-loop
     (λ c κs. search rules)
-    (λ c. (omega arith, omega (arith, ap (λ x. x.count) c.declare.ensures), λ long. c.declare.ensures ∙ sym (kept_none c.before.args.t1 c.before.args.i c.before.args.n long)))
+    (λ c. (omega arith, omega (arith, ap (λ x. x.count) c.declare-rest.ensures), λ long. c.declare-rest.ensures ∙ sym (kept_none c.args.t1 c.args.i c.args.n long)))
     (λ c κs. search rules)
     (λ c. search rules)
     (λ c. search rules)

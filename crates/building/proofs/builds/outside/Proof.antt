@@ -7,13 +7,13 @@ use Rattle.outcome.proofs.Never.{never}
 use Rattle.building.proofs.builds.outside.Statement.{statement}
 use Rattle.building.proofs.builds.outside.Tie as tie
 
-returns : tie.Need-returns
-returns c = (λ e. inl c.if1.true, λ e. never cc)
+returns : tie.Need-returns-then-j-i
+returns c = (λ e. inl c.if-j-i.true, λ e. never cc)
 
-returns-2 : tie.Need-returns-2
+returns-2 : tie.Need-returns
 returns-2 c =
-    let a = c.before.args in
-    (λ e. inr (omega (arith, leb-true a.n (a.j - a.i) e, c.if1.false)), λ e. (c.if1.false, omega (arith, leb-false a.n (a.j - a.i) e, c.if1.false)))
+    let a = c.args in
+    (λ e. inr (omega (arith, leb-true a.n (a.j - a.i) e, c.if-j-i.false)), λ e. (c.if-j-i.false, omega (arith, leb-false a.n (a.j - a.i) e, c.if-j-i.false)))
 
 pub outside_spec : {M : Type 1} → statement M
 outside_spec = tie.close (tie.spec returns returns-2)

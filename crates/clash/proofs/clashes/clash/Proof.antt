@@ -7,22 +7,22 @@ use Rattle.clash.proofs.DecidedLaws.{keeps_none, is_impossible, keeps_part}
 use Rattle.clash.proofs.clashes.clash.Statement.{statement}
 use Rattle.clash.proofs.clashes.clash.Tie as tie
 
-walk-requires : tie.Need-walk-requires
+walk-requires : tie.Need-walk-kept-requires
 walk-requires c κs =
-    let d = c.before.before.before.before.before in
-    let told = d.begin.ensures in
-    ((is_impossible d.before.args.q d.begin.result.decision told.0 c.enum-told2.given.1).0, told.1 c.enum-told2.given.1)
+    let d = c in
+    let told = d.begin-begun.ensures in
+    ((is_impossible d.args.q d.begin-begun.result.decision told.0 c.in-Impossible.is).0, told.1 c.in-Impossible.is)
 
 returns : tie.Need-returns
 returns c =
-    let d = c.before.before.before.before.before.before in
-    let q = d.before.args.q in
-    let r = d.begin.result.decision in
-    let is = d.begin.ensures.0 in
+    let d = c in
+    let q = d.args.q in
+    let r = d.begin-begun.result.decision in
+    let is = d.begin-begun.ensures.0 in
     ⊎_elim
     (λ x. ap (with_kept r) (x.3 ∙ x.2.ensures) ∙ sym (keeps_none q r is x.1.given.1))
     (λ x. ap (with_kept r) (x.3 ∙ x.2.ensures) ∙ sym (keeps_part q r is x.1.given.1))
-    c.before.before.match.branch
+    c.match-verdict.branch-raw
 
 pub clash_spec : {M : Type 1} → statement M
 clash_spec = tie.close (tie.spec (λ c κs. search rules) (λ c. search rules) (λ c κs. search rules) (λ c. search rules) walk-requires returns)

@@ -10,48 +10,48 @@ use Rattle.clash.proofs.ThreeLaws.{three_same, refused_short, three_short, three
 use Rattle.clash.proofs.files.put_three.Statement.{statement}
 use Rattle.clash.proofs.files.put_three.Tie as tie
 
-returns : tie.Need-returns
+returns : tie.Need-returns-then-indexes-old
 returns c =
-    let a = c.before.before.before.before.before.before.before.args in
+    let a = c.args in
     let new = three (question_bytes a.found) a.old.now a.said.now in
     let old = three a.part.now a.indexes.now a.answer.now in
-    let kept = three_short new old (short_two new old c.before.if1.true) in
+    let kept = three_short new old (short_two new old c.if-indexes-old.true) in
     (ap Refused c.new.ensures ∙ sym kept.0, sym kept.1)
 
-put-bytes-requires : tie.Need-put-bytes-requires
+put-bytes-requires : tie.Need-put_bytes-requires
 put-bytes-requires c κs =
-    let f = c.before.before.before.before.before.before.before.before in
-    let a = f.before.before.before.before.before.before.args in
-    (two_fit (three (question_bytes a.found) a.old.now a.said.now) (three a.part.now a.indexes.now a.answer.now) f.if1.false).0
+    let f = c in
+    let a = f.args in
+    (two_fit (three (question_bytes a.found) a.old.now a.said.now) (three a.part.now a.indexes.now a.answer.now) f.if-indexes-old.false).0
 
-put-bytes-requires-2 : tie.Need-put-bytes-requires-2
+put-bytes-requires-2 : tie.Need-put_bytes-requires-in-Count
 put-bytes-requires-2 c κs =
-    let f = c.before.before.before.before.before.before.before.before.before.before.before.before in
-    let a = f.before.before.before.before.before.before.args in
-    (two_fit (three (question_bytes a.found) a.old.now a.said.now) (three a.part.now a.indexes.now a.answer.now) f.if1.false).1
+    let f = c in
+    let a = f.args in
+    (two_fit (three (question_bytes a.found) a.old.now a.said.now) (three a.part.now a.indexes.now a.answer.now) f.if-indexes-old.false).1
 
-returns-2 : tie.Need-returns-2
+returns-2 : tie.Need-returns-in-Refused
 returns-2 c =
-    let w = c.before.before.before.before.before in
-    let s = w.before.before.before.before.before.before.before.before in
+    let w = c in
+    let s = w in
     let a = s.args in
     let new = three (question_bytes a.found) a.old.now a.said.now in
     let old = three a.part.now a.indexes.now a.answer.now in
-    let told = sym w.write-question.ensures.0 ∙ c.before.refusal.given.1 in
+    let told = sym w.write_question.ensures.0 ∙ c.in-Refused.is in
     let short = refused_short a.found (length a.part.now) _ s.requires told in
     let kept = three_short new old (short_part new old short.0) in
-    (ap Refused short.1 ∙ sym kept.0, ap (λ p. three p a.indexes.now a.answer.now) (w.write-question.ensures.1 ∙ refused_over a.found a.part.now _ told) ∙ sym kept.1)
+    (ap Refused short.1 ∙ sym kept.0, ap (λ p. three p a.indexes.now a.answer.now) (w.write_question.ensures.1 ∙ refused_over a.found a.part.now _ told) ∙ sym kept.1)
 
-returns-3 : tie.Need-returns-3
+returns-3 : tie.Need-returns-in-Count
 returns-3 c =
-    let w = c.before.before.before.before.before.before.before.before.before.before.before.before.before in
-    let a = w.before.before.before.before.before.before.before.before.args in
+    let w = c in
+    let a = w.args in
     let new = three (question_bytes a.found) a.old.now a.said.now in
     let old = three a.part.now a.indexes.now a.answer.now in
-    let told = written_writable a.found (length a.part.now) _ (sym w.write-question.ensures.0 ∙ c.before.before.before.before.before.before.before.before.before.n.given.1) in
-    let done = three_fit new old (none_short new old w.before.before.if1.false told.0.1) in (
+    let told = written_writable a.found (length a.part.now) _ (sym w.write_question.ensures.0 ∙ c.in-Count.is) in
+    let done = three_fit new old (none_short new old w.if-indexes-old.false told.0.1) in (
       ap (λ n. Counts n (length a.old.now) (length a.said.now)) told.1 ∙ sym done.0,
-      three_same (w.write-question.ensures.1 ∙ written_over_lem a.found a.part.now told.0) c.before.before.before.before.before.before.put-bytes.ensures c.before.before.put-bytes2.ensures ∙ sym done.1,
+      three_same (w.write_question.ensures.1 ∙ written_over_lem a.found a.part.now told.0) c.put_bytes.ensures c.put_bytes-in-Count.ensures ∙ sym done.1,
     )
 
 pub put_three_spec : {M : Type 1} → statement M

@@ -17,43 +17,43 @@ use Rattle.clash.proofs.files.write_clash.Statement.{statement}
 use Rattle.clash.proofs.files.write_clash.Tie as tie
 
 -- what is written of the answer
-answered : (s : tie.After-write-answer) → let w = s.write-answer in let q = s.before.before.before.before.before.before.args.q in
+answered : (s : tie.After-write_answer) → let w = s.write_answer in let q = s.args.q in
     (w.result ≡ fitted (file_of (answer q)) 49) × (w.new.1.1.0 ≡ fitted_over (file_of (answer q)) (replicate 49 0))
 answered s =
-    let e = s.before.before.before.before.before.before in
+    let e = s in
     let p = answer_writes e.args.q e.requires.0 e.args.found e.requires.1 (replicate 49 0) in
-    (s.write-answer.ensures.0 ∙ p.0, s.write-answer.ensures.1 ∙ p.1)
+    (s.write_answer.ensures.0 ∙ p.0, s.write_answer.ensures.1 ∙ p.1)
 
 -- it stands at the front of its buffer
-front : (c : tie.After-known-told2) →
-    let s = c.before.before.before.before in let n = c.before.n.given.0.0 in let q = s.before.before.before.before.before.before.args.q in
-    (n ≤ length s.write-answer.new.1.1.0) × (take n s.write-answer.new.1.1.0 ≡ file_of (answer q))
+front : (c : tie.In-Count) →
+    let s = c in let n = c.in-Count.n in let q = s.args.q in
+    (n ≤ length s.write_answer.new.buf) × (take n s.write_answer.new.buf ≡ file_of (answer q))
 front c =
-    let s = c.before.before.before.before in
-    let e = s.before.before.before.before.before.before in
-    at_front (file_of (answer e.args.q)) (replicate 49 0) s.write-answer.new.1.1.0 _ (sym (answered s).0 ∙ c.before.n.given.1) (answered s).1
+    let s = c in
+    let e = s in
+    at_front (file_of (answer e.args.q)) (replicate 49 0) s.write_answer.new.buf _ (sym (answered s.before.before.before.before).0 ∙ c.in-Count.is) (answered s.before.before.before.before).1
 
 -- and the indexes of the part in front of the array
-inside : (c : tie.After-known-told2) → let e = c.before.before.before.before.before.before.before.before.before.before in e.args.found.part.count ≤ length e.args.found.indexes
+inside : (c : tie.In-Count) → let e = c in e.args.found.part.count ≤ length e.args.found.indexes
 inside c =
-    let e = c.before.before.before.before.before.before.before.before.before.before in
+    let e = c in
     let long : length e.args.found.indexes ≡ 64 = search rules in
     omega (arith, few_indexes e.args.q e.requires.0 e.args.found e.requires.1, long)
 
-returns : tie.Need-returns
+returns : tie.Need-returns-in-Refused
 returns c =
-    let s = c.before.before.before.before in
-    let e = s.before.before.before.before.before.before in
-    never_refused (file_of (answer e.args.q)) (replicate 49 0) (answer_fits e.args.q e.requires.0 e.args.found e.requires.1) (answered s).0 c.before.refusal.given.1
+    let s = c in
+    let e = s in
+    never_refused (file_of (answer e.args.q)) (replicate 49 0) (answer_fits e.args.q e.requires.0 e.args.found e.requires.1) (answered s.before.before.before.before).0 c.in-Refused.is
 
-returns-2 : tie.Need-returns-2
+returns-2 : tie.Need-returns-in-Count
 returns-2 c =
-    let p = c.before.before.before.before.before.before in
-    let k = p.before.before.before.before.before.before.before.before in
-    let e = k.before.before.before.before.before.before.before.before.before.before in
+    let p = c in
+    let k = p in
+    let e = k in
     let a = e.args in
     let old = three a.part.now a.indexes.now a.answer.now in
-    let all = three_same (ap question_bytes (part_is a.q e.requires.0 a.found e.requires.1)) (indexes_are a.q e.requires.0 a.found e.requires.1) (front k).1 in
+    let all = three_same (ap question_bytes (part_is a.q e.requires.0 a.found e.requires.1)) (indexes_are a.q e.requires.0 a.found e.requires.1) (front k.before.before.before.before.before.before.before.before.before.before.before.before.before.before).1 in
     (p.put_three.ensures.0 ∙ ap (λ t. three_written t old) all, p.put_three.ensures.1 ∙ ap (λ t. three_over t old) all)
 
 pub write_clash_spec : {M : Type 1} → statement M
@@ -68,7 +68,7 @@ write_clash_spec =
     (λ c. sym (length-take-le _ _ (inside c.before.before.before)))
     (λ c. (front c.before.before.before).0)
     (λ c. sym (length-take-le _ _ (front c.before.before.before.before).0))
-    (λ c κs. let e = c.before.before.before.before.before.before.before.before.before.before.before.before.before.before.before.before.before in part_accepts e.args.q e.requires.0 e.args.found e.requires.1)
+    (λ c κs. let e = c in part_accepts e.args.q e.requires.0 e.args.found e.requires.1)
     returns
     (λ c. search rules)
     (λ c. search rules)

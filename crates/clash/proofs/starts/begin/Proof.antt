@@ -7,16 +7,16 @@ use Rattle.clash.proofs.StartLaws.{start_first}
 use Rattle.clash.proofs.starts.begin.Statement.{statement}
 use Rattle.clash.proofs.starts.begin.Tie as tie
 
-begin-full-requires : tie.Need-begin-full-requires
-begin-full-requires c κs = (sym c.before.before.check.ensures ∙ c.enum-told2.given.1, c.before.before.before.if1.true)
+begin-full-requires : tie.Need-begin_full-requires
+begin-full-requires c κs = (sym c.check.ensures ∙ c.in-Accepted.is, c.if-q-eq-MAX_STATEMENTS.true)
 
-returns-2 : tie.Need-returns-2
+returns-2 : tie.Need-returns
 returns-2 c =
-    let d = c.before in
-    let q = c.before.before.before.before.args.q in
-    let told = c.from-the-first.ensures in
+    let d = c in
+    let q = c.args.q in
+    let told = c.from_the_first.ensures in
     let same = told.0 ∙ d.decide.ensures in
-    (same, λ v. let i = is_impossible q c.from-the-first.result.decision same v in subst (MayStart q) (sym told.1) (start_first q i.0 i.1))
+    (same, λ v. let i = is_impossible q c.from_the_first.result.decision same v in subst (MayStart q) (sym told.1) (start_first q i.0 i.1))
 
 pub begin_spec : {M : Type 1} → statement M
 begin_spec =

@@ -11,22 +11,22 @@ use Rattle.clash.proofs.starts.begin_full.Statement.{statement}
 use Rattle.clash.proofs.starts.begin_full.Tie as tie
 
 -- what the test says of what remains
-tested : (c : tie.After-is-impossible) → without_model (dropped c.before.before.args.q 0 1) ≡ c.is_impossible.result
-tested c = ap without_model (sym c.before.drop-statements.ensures) ∙ sym c.is_impossible.ensures
+tested : (c : tie.After-is_impossible) → without_model (dropped c.args.q 0 1) ≡ c.is_impossible.result
+tested c = ap without_model (sym c.drop_statements-rest.ensures) ∙ sym c.is_impossible.ensures
 
-returns : tie.Need-returns
+returns : tie.Need-returns-then-is_impossible
 returns c =
-    let s = c.before.before.before.before in
+    let s = c in
     let q = s.args.q in
     let is = (accepted q).0 s.requires.0 in
-    let spared = tested c.before.before ∙ c.before.if1.true in
-    (ap decided_as c.impossible.ensures ∙ sym (spared_decided q is s.requires.1 spared), λ v. start_spared q is s.requires.1 spared)
+    let spared = tested c.before.before ∙ c.if-is_impossible.true in
+    (ap decided_as c.impossible-answer.ensures ∙ sym (spared_decided q is s.requires.1 spared), λ v. start_spared q is s.requires.1 spared)
 
-returns-2 : tie.Need-returns-2
+returns-2 : tie.Need-returns
 returns-2 c =
-    let s = c.before.before.before.before in
+    let s = c in
     let q = s.args.q in
-    (c.decide.ensures, λ v. let i = is_impossible q c.decide.result c.decide.ensures v in start_needed q i.0 i.1 s.requires.1 (tested c.before.before ∙ c.before.if1.false))
+    (c.decide.ensures, λ v. let i = is_impossible q c.decide.result c.decide.ensures v in start_needed q i.0 i.1 s.requires.1 (tested c.before.before ∙ c.if-is_impossible.false))
 
 pub begin_full_spec : {M : Type 1} → statement M
 begin_full_spec = tie.close (tie.spec (λ c κs. search rules) (λ c κs. search rules) (λ c κs. search rules) returns (λ c. search rules) (λ c κs. search rules) returns-2)

@@ -7,13 +7,13 @@ use Rattle.clash.specs.Clashes.{without_model}
 use Rattle.clash.proofs.walks.is_impossible.Statement.{statement}
 use Rattle.clash.proofs.walks.is_impossible.Tie as tie
 
-returns : tie.Need-returns
+returns : tie.Need-returns-in-Possible
 unfolding without_model
-returns c = sym (ap (λ v. not (is_possible v)) (sym (ap (λ x. x.verdict) c.before.before.search-table.ensures) ∙ c.enum_told.given.1))
+returns c = sym (ap (λ v. not (is_possible v)) (sym (ap (λ x. x.verdict) c.search_table-found.ensures) ∙ c.in-Possible.is))
 
-returns-2 : tie.Need-returns-2
+returns-2 : tie.Need-returns-in-Impossible
 unfolding without_model
-returns-2 c = sym (ap (λ v. not (is_possible v)) (sym (ap (λ x. x.verdict) c.before.before.search-table.ensures) ∙ c.enum-told2.given.1))
+returns-2 c = sym (ap (λ v. not (is_possible v)) (sym (ap (λ x. x.verdict) c.search_table-found.ensures) ∙ c.in-Impossible.is))
 
 pub is_impossible_spec : {M : Type 1} → statement M
 is_impossible_spec = tie.close (tie.spec (λ c κs. search rules) (λ c. search rules) (λ c. search rules) returns returns-2)

@@ -10,8 +10,8 @@ in_variable_spec =
     tie.close
     (tie.spec
     (λ c κs. search rules)
-    (λ c. let a = c.before.args in omega (arith, product_most a.c a.sets (omega arith) (omega arith)))
-    (λ c. let a = c.before.args in omega (arith, product_most a.c a.sets (omega arith) (omega arith)))
-    (λ c. let a = c.before.args in omega (arith, product_most a.c a.sets (omega arith) (omega arith), pair_count_most a.terms (omega arith)))
-    (λ c. let a = c.before.args in omega (arith, product_most a.c a.sets (omega arith) (omega arith), pair_count_most a.terms (omega arith)))
+    (λ c. let a = c.args in omega (arith, product_most a.c a.sets (omega arith) (omega arith)))
+    (λ c. let a = c.args in omega (arith, product_most a.c a.sets (omega arith) (omega arith)))
+    (λ c. let a = c.args in omega (arith, product_most a.c a.sets (omega arith) (omega arith), pair_count_most a.terms (omega arith)))
+    (λ c. let a = c.args in omega (arith, product_most a.c a.sets (omega arith) (omega arith), pair_count_most a.terms (omega arith)))
     (λ c. search rules))

@@ -8,25 +8,25 @@ use Rattle.clauses.proofs.NumberingLaws.{pair_count_next, pair_count_most}
 use Rattle.clauses.proofs.variables.pair_count.Statement.{statement}
 use Rattle.clauses.proofs.variables.pair_count.Tie as tie
 
-abbrev invariant-loop : tie.invariant-loop
+abbrev invariant-loop : tie.invariant-loop-n
 invariant-loop terms count₀ n₀ count n = (n ≤ terms) × (count ≡ pair_count n)
 
-abbrev decreases-loop : tie.decreases-loop
+abbrev decreases-loop : tie.decreases-loop-n
 decreases-loop terms count₀ n₀ count n = terms - n
 
-loop-holds : tie.Need-loop-init invariant-loop decreases-loop
+loop-holds : tie.Need-loop-n-init invariant-loop decreases-loop
 unfolding pair_count
 loop-holds c = (omega arith, refl)
 
-add_count : tie.Need-overflow-add-count invariant-loop decreases-loop
-add_count c = let l = c.before.loop in omega (arith, pair_count_most l.n (omega arith))
+add_count : tie.Need-overflow_add-count invariant-loop decreases-loop
+add_count c = let l = c.loop-n in omega (arith, pair_count_most l.n (omega arith))
 
-loop-again : tie.Need-loop-preserved invariant-loop decreases-loop
-loop-again c = let l = c.before.loop in (omega arith, omega (arith, pair_count_next l.n, l.invariant.1))
+loop-again : tie.Need-loop-n-preserved invariant-loop decreases-loop
+loop-again c = let l = c.loop-n in (omega arith, omega (arith, pair_count_next l.n, l.invariant.1))
 
 returns : tie.Need-returns invariant-loop decreases-loop
 returns c =
-    let l = c.before.loop in
+    let l = c.loop-n in
     l.invariant.1 ∙ ap pair_count (omega arith)
 
 pub pair_count_spec : {M : Type 1} → statement M

@@ -10,5 +10,5 @@ pair_variable_spec =
     tie.close
     (tie.spec
     (λ c κs. search rules)
-    (λ c. let a = c.before.args in omega (arith, pair_index_most a.terms a.c a.d (omega arith) (omega arith)))
+    (λ c. let a = c.args in omega (arith, pair_index_most a.terms a.c a.d (omega arith) (omega arith)))
     (λ c. search rules))

@@ -6,11 +6,11 @@ use Rattle.decision.proofs.DecisionLaws.{decided_refused, shown_decided}
 use Rattle.decision.proofs.decisions.decide.Statement.{statement}
 use Rattle.decision.proofs.decisions.decide.Tie as tie
 
-returns : tie.Need-returns
-returns c = c.refused.ensures ∙ sym (decided_refused _ _ (sym c.before.before.before.before.check.ensures ∙ c.before.before.refusal.given.1))
+returns : tie.Need-returns-in-Refused
+returns c = c.refused.ensures ∙ sym (decided_refused _ _ (sym c.check.ensures ∙ c.in-Refused.is))
 
-returns-2 : tie.Need-returns-2
-returns-2 c = c.show.ensures ∙ ap shown c.before.search-table.ensures ∙ shown_decided _ (sym c.before.before.before.before.check.ensures ∙ c.before.before.enum_told.given.1)
+returns-2 : tie.Need-returns-in-Accepted
+returns-2 c = c.show.ensures ∙ ap shown c.search_table.ensures ∙ shown_decided _ (sym c.check.ensures ∙ c.in-Accepted.is)
 
 pub decide_spec : {M : Type 1} → statement M
 decide_spec =

@@ -17,27 +17,27 @@ use Rattle.decision.proofs.decisions.search_table.Statement.{statement}
 use Rattle.decision.proofs.decisions.search_table.Tie as tie
 
 -- as many rows stand at the front of the buffer, and the search says of them what it says of the table's
-came : (c : tie.At-match-branch) →
-    let w = c.before.before in let q = w.before.before.args.q in
-    (c.match.count ≤ length w.write-rows.new.1.0) × (searched (terms_of q) q.sets (take c.match.count w.write-rows.new.1.0) ≡ table_searched q)
+came : (c : tie.Joined-write_rows) →
+    let w = c in let q = w.args.q in
+    (c.match-write_rows.count ≤ length w.write_rows.new.rows) × (searched (terms_of q) q.sets (take c.match-write_rows.count w.write_rows.new.rows) ≡ table_searched q)
 came c =
-    let w = c.before.before in
-    let q = w.before.before.args.q in
-    let told = w.write-rows.ensures in
+    let w = c in
+    let q = w.args.q in
+    let told = w.write_rows.ensures in
     let long : length q.table ≡ 64 = search table_long in
     ⊎_elim
     (λ x. (omega (arith, x.2), many_searched q _ (table_refused q _ _ (stated_few q long) (omega arith) (sym told.0 ∙ x.1.given.1))))
     (λ x. let s = table_stands q _ _ _ told.1 (sym told.0 ∙ x.1.given.1) in
-    (omega (arith, x.3, s.0), rows_searched q _ (ap (λ n. take n w.write-rows.new.1.0) x.3 ∙ s.1)))
-    c.match.branch
+    (omega (arith, x.3, s.0), rows_searched q _ (ap (λ n. take n w.write_rows.new.rows) x.3 ∙ s.1)))
+    c.match-write_rows.branch-raw
 
 returns : tie.Need-returns
 returns c =
-    let k = c.before.before.before in
-    let w = k.before.before in
-    let q = w.before.before.args.q in
-    let rows = take k.match.count w.write-rows.new.1.0 in
-    c.search.ensures ∙ ap (λ t. searched t q.sets rows) c.before.before.terms.ensures ∙ (came k).1
+    let k = c in
+    let w = k in
+    let q = w.args.q in
+    let rows = take k.match-write_rows.count w.write_rows.new.rows in
+    c.search.ensures ∙ ap (λ t. searched t q.sets rows) c.terms-n.ensures ∙ (came k.before.before.before).1
 
 pub search_table_spec : {M : Type 1} → statement M
 search_table_spec =

@@ -5,17 +5,17 @@ use Rattle.dimacs.proofs.WriterLaws.{file_refused, file_accepted}
 use Rattle.dimacs.proofs.files.clauses_file.Statement.{statement}
 use Rattle.dimacs.proofs.files.clauses_file.Tie as tie
 
-returns : tie.Need-returns
+returns : tie.Need-returns-in-Refused
 returns c =
-    let a = c.before.before.before.before.before.before.args in
-    let left = file_refused a.bytes.now _ c.before.before.before.read-question.ensures a.buf.now _ c.before.outcome.given.1 in
+    let a = c.args in
+    let left = file_refused a.bytes.now _ c.read_question-read.ensures a.buf.now _ c.in-Refused.is in
     (sym left.0, sym left.1)
 
-returns-2 : tie.Need-returns-2
+returns-2 : tie.Need-returns-in-Accepted
 returns-2 c =
-    let a = c.before.before.before.before.before.before.before.before.before.before.args in
-    let left = file_accepted a.bytes.now _ c.before.before.before.before.before.before.before.read-question.ensures a.buf.now c.before.before.before.before.before.enum_told.given.1 in
-    (c.before.before.write-clauses.ensures.0 ∙ sym left.0, c.before.before.write-clauses.ensures.1 ∙ sym left.1)
+    let a = c.args in
+    let left = file_accepted a.bytes.now _ c.read_question-read.ensures a.buf.now c.in-Accepted.is in
+    (c.write_clauses.ensures.0 ∙ sym left.0, c.write_clauses.ensures.1 ∙ sym left.1)
 
 pub clauses_file_spec : {M : Type 1} → statement M
 clauses_file_spec =

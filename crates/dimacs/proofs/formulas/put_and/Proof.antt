@@ -8,25 +8,25 @@ use Rattle.dimacs.proofs.WroteLaws.{room_first, room_rest, room_as, two_same, th
 use Rattle.dimacs.proofs.formulas.put_and.Statement.{statement}
 use Rattle.dimacs.proofs.formulas.put_and.Tie as tie
 
-put-two-requires : tie.Need-put-two-requires
+put-two-requires : tie.Need-put_two-first-requires
 put-two-requires c κs =
-    let a = c.before.before.before.before.args in
-    room_as a.from (sym (two_same c.before.before.is-not.ensures c.before.is.ensures)) (room_first a.from ((two (is_not a.p) (is a.q)) ∷ []) ((two (is_not a.p) (is a.r)) ∷ (three (is a.p) (is_not a.q) (is_not a.r)) ∷ []) c.before.before.before.before.requires)
+    let a = c.args in
+    room_as a.from (sym (two_same c.is_not.ensures c.is.ensures)) (room_first a.from ((two (is_not a.p) (is a.q)) ∷ []) ((two (is_not a.p) (is a.r)) ∷ (three (is a.p) (is_not a.q) (is_not a.r)) ∷ []) c.requires)
 
-put-two-requires-2 : tie.Need-put-two-requires-2
+put-two-requires-2 : tie.Need-put_two-second-requires
 put-two-requires-2 c κs =
-    let a = c.before.before.before.before.before.before.before.before.before.before.args in
-    room_as c.before.before.before.before.before.put_two.result (sym (two_same c.before.before.is-not2.ensures c.before.is2.ensures)) (room_first c.before.before.before.before.before.put_two.result ((two (is_not a.p) (is a.r)) ∷ []) ((three (is a.p) (is_not a.q) (is_not a.r)) ∷ []) (room_rest a.from c.before.before.before.before.before.put_two.result ((two (is_not a.p) (is a.q)) ∷ []) ((two (is_not a.p) (is a.r)) ∷ (three (is a.p) (is_not a.q) (is_not a.r)) ∷ []) c.before.before.before.before.before.before.before.before.before.before.requires (wrote_as a.from a.buf.now (two_same c.before.before.before.before.before.before.before.before.is-not.ensures c.before.before.before.before.before.before.before.is.ensures) c.before.before.before.before.before.put_two.ensures).0))
+    let a = c.args in
+    room_as c.put_two-first.result (sym (two_same c.is_not-2.ensures c.is-2.ensures)) (room_first c.put_two-first.result ((two (is_not a.p) (is a.r)) ∷ []) ((three (is a.p) (is_not a.q) (is_not a.r)) ∷ []) (room_rest a.from c.put_two-first.result ((two (is_not a.p) (is a.q)) ∷ []) ((two (is_not a.p) (is a.r)) ∷ (three (is a.p) (is_not a.q) (is_not a.r)) ∷ []) c.requires (wrote_as a.from a.buf.now (two_same c.is_not.ensures c.is.ensures) c.put_two-first.ensures).0))
 
-put-three-requires : tie.Need-put-three-requires
+put-three-requires : tie.Need-put_three-requires
 put-three-requires c κs =
-    let a = c.before.before.before.before.before.before.before.before.before.before.before.before.before.before.before.before.before.args in
-    room_as c.before.before.before.before.before.before.put-two2.result (sym (three_same c.before.before.before.is3.ensures c.before.before.is-not3.ensures c.before.is-not4.ensures)) (room_rest c.before.before.before.before.before.before.before.before.before.before.before.before.put_two.result c.before.before.before.before.before.before.put-two2.result ((two (is_not a.p) (is a.r)) ∷ []) ((three (is a.p) (is_not a.q) (is_not a.r)) ∷ []) (room_rest a.from c.before.before.before.before.before.before.before.before.before.before.before.before.put_two.result ((two (is_not a.p) (is a.q)) ∷ []) ((two (is_not a.p) (is a.r)) ∷ (three (is a.p) (is_not a.q) (is_not a.r)) ∷ []) c.before.before.before.before.before.before.before.before.before.before.before.before.before.before.before.before.before.requires (wrote_as a.from a.buf.now (two_same c.before.before.before.before.before.before.before.before.before.before.before.before.before.before.before.is-not.ensures c.before.before.before.before.before.before.before.before.before.before.before.before.before.before.is.ensures) c.before.before.before.before.before.before.before.before.before.before.before.before.put_two.ensures).0) (wrote_as c.before.before.before.before.before.before.before.before.before.before.before.before.put_two.result c.before.before.before.before.before.before.before.before.before.before.before.before.put_two.new.1.1.1.0 (two_same c.before.before.before.before.before.before.before.before.before.is-not2.ensures c.before.before.before.before.before.before.before.before.is2.ensures) c.before.before.before.before.before.before.put-two2.ensures).0)
+    let a = c.args in
+    room_as c.put_two-second.result (sym (three_same c.is-3.ensures c.is_not-3.ensures c.is_not-4.ensures)) (room_rest c.put_two-first.result c.put_two-second.result ((two (is_not a.p) (is a.r)) ∷ []) ((three (is a.p) (is_not a.q) (is_not a.r)) ∷ []) (room_rest a.from c.put_two-first.result ((two (is_not a.p) (is a.q)) ∷ []) ((two (is_not a.p) (is a.r)) ∷ (three (is a.p) (is_not a.q) (is_not a.r)) ∷ []) c.requires (wrote_as a.from a.buf.now (two_same c.is_not.ensures c.is.ensures) c.put_two-first.ensures).0) (wrote_as c.put_two-first.result c.put_two-first.new.buf (two_same c.is_not-2.ensures c.is-2.ensures) c.put_two-second.ensures).0)
 
 returns : tie.Need-returns
 returns c =
-    let a = c.before.before.before.before.before.before.before.before.before.before.before.before.before.before.before.before.before.before.before.before.args in
-    wrote_more a.from a.buf.now ((two (is_not a.p) (is a.q)) ∷ []) ((two (is_not a.p) (is a.r)) ∷ (three (is a.p) (is_not a.q) (is_not a.r)) ∷ []) (wrote_as a.from a.buf.now (two_same c.before.before.before.before.before.before.before.before.before.before.before.before.before.before.before.before.before.before.is-not.ensures c.before.before.before.before.before.before.before.before.before.before.before.before.before.before.before.before.before.is.ensures) c.before.before.before.before.before.before.before.before.before.before.before.before.before.before.before.put_two.ensures) (wrote_more c.before.before.before.before.before.before.before.before.before.before.before.before.before.before.before.put_two.result c.before.before.before.before.before.before.before.before.before.before.before.before.before.before.before.put_two.new.1.1.1.0 ((two (is_not a.p) (is a.r)) ∷ []) ((three (is a.p) (is_not a.q) (is_not a.r)) ∷ []) (wrote_as c.before.before.before.before.before.before.before.before.before.before.before.before.before.before.before.put_two.result c.before.before.before.before.before.before.before.before.before.before.before.before.before.before.before.put_two.new.1.1.1.0 (two_same c.before.before.before.before.before.before.before.before.before.before.before.before.is-not2.ensures c.before.before.before.before.before.before.before.before.before.before.before.is2.ensures) c.before.before.before.before.before.before.before.before.before.put-two2.ensures) (wrote_as c.before.before.before.before.before.before.before.before.before.put-two2.result c.before.before.before.before.before.before.before.before.before.put-two2.new.1.1.1.0 (three_same c.before.before.before.before.before.before.is3.ensures c.before.before.before.before.before.is-not3.ensures c.before.before.before.before.is-not4.ensures) c.before.before.put_three.ensures))
+    let a = c.args in
+    wrote_more a.from a.buf.now ((two (is_not a.p) (is a.q)) ∷ []) ((two (is_not a.p) (is a.r)) ∷ (three (is a.p) (is_not a.q) (is_not a.r)) ∷ []) (wrote_as a.from a.buf.now (two_same c.is_not.ensures c.is.ensures) c.put_two-first.ensures) (wrote_more c.put_two-first.result c.put_two-first.new.buf ((two (is_not a.p) (is a.r)) ∷ []) ((three (is a.p) (is_not a.q) (is_not a.r)) ∷ []) (wrote_as c.put_two-first.result c.put_two-first.new.buf (two_same c.is_not-2.ensures c.is-2.ensures) c.put_two-second.ensures) (wrote_as c.put_two-second.result c.put_two-second.new.buf (three_same c.is-3.ensures c.is_not-3.ensures c.is_not-4.ensures) c.put_three.ensures))
 
 pub put_and_spec : {M : Type 1} → statement M
 put_and_spec =

@@ -8,25 +8,25 @@ use Rattle.dimacs.proofs.WroteLaws.{room_first, room_rest, room_as, three_same, 
 use Rattle.dimacs.proofs.formulas.put_joining.Statement.{statement}
 use Rattle.dimacs.proofs.formulas.put_joining.Tie as tie
 
-put-three-requires : tie.Need-put-three-requires
+put-three-requires : tie.Need-put_three-first-requires
 put-three-requires c κs =
-    let a = c.before.before.before.before.before.args in
-    room_as a.from (sym (three_same c.before.before.before.is-not.ensures c.before.before.is-not2.ensures c.before.is.ensures)) (room_first a.from ((three (is_not a.bc) (is_not a.cd) (is a.bd)) ∷ []) ((three (is_not a.bc) (is_not a.bd) (is a.cd)) ∷ (three (is_not a.bd) (is_not a.cd) (is a.bc)) ∷ []) c.before.before.before.before.before.requires)
+    let a = c.args in
+    room_as a.from (sym (three_same c.is_not.ensures c.is_not-2.ensures c.is.ensures)) (room_first a.from ((three (is_not a.bc) (is_not a.cd) (is a.bd)) ∷ []) ((three (is_not a.bc) (is_not a.bd) (is a.cd)) ∷ (three (is_not a.bd) (is_not a.cd) (is a.bc)) ∷ []) c.requires)
 
-put-three-requires-2 : tie.Need-put-three-requires-2
+put-three-requires-2 : tie.Need-put_three-second-requires
 put-three-requires-2 c κs =
-    let a = c.before.before.before.before.before.before.before.before.before.before.before.before.args in
-    room_as c.before.before.before.before.before.before.put_three.result (sym (three_same c.before.before.before.is-not3.ensures c.before.before.is-not4.ensures c.before.is2.ensures)) (room_first c.before.before.before.before.before.before.put_three.result ((three (is_not a.bc) (is_not a.bd) (is a.cd)) ∷ []) ((three (is_not a.bd) (is_not a.cd) (is a.bc)) ∷ []) (room_rest a.from c.before.before.before.before.before.before.put_three.result ((three (is_not a.bc) (is_not a.cd) (is a.bd)) ∷ []) ((three (is_not a.bc) (is_not a.bd) (is a.cd)) ∷ (three (is_not a.bd) (is_not a.cd) (is a.bc)) ∷ []) c.before.before.before.before.before.before.before.before.before.before.before.before.requires (wrote_as a.from a.buf.now (three_same c.before.before.before.before.before.before.before.before.before.before.is-not.ensures c.before.before.before.before.before.before.before.before.before.is-not2.ensures c.before.before.before.before.before.before.before.before.is.ensures) c.before.before.before.before.before.before.put_three.ensures).0))
+    let a = c.args in
+    room_as c.put_three-first.result (sym (three_same c.is_not-3.ensures c.is_not-4.ensures c.is-2.ensures)) (room_first c.put_three-first.result ((three (is_not a.bc) (is_not a.bd) (is a.cd)) ∷ []) ((three (is_not a.bd) (is_not a.cd) (is a.bc)) ∷ []) (room_rest a.from c.put_three-first.result ((three (is_not a.bc) (is_not a.cd) (is a.bd)) ∷ []) ((three (is_not a.bc) (is_not a.bd) (is a.cd)) ∷ (three (is_not a.bd) (is_not a.cd) (is a.bc)) ∷ []) c.requires (wrote_as a.from a.buf.now (three_same c.is_not.ensures c.is_not-2.ensures c.is.ensures) c.put_three-first.ensures).0))
 
-put-three-requires-3 : tie.Need-put-three-requires-3
+put-three-requires-3 : tie.Need-put_three-requires
 put-three-requires-3 c κs =
-    let a = c.before.before.before.before.before.before.before.before.before.before.before.before.before.before.before.before.before.before.before.args in
-    room_as c.before.before.before.before.before.before.put-three2.result (sym (three_same c.before.before.before.is-not5.ensures c.before.before.is-not6.ensures c.before.is3.ensures)) (room_rest c.before.before.before.before.before.before.before.before.before.before.before.before.before.put_three.result c.before.before.before.before.before.before.put-three2.result ((three (is_not a.bc) (is_not a.bd) (is a.cd)) ∷ []) ((three (is_not a.bd) (is_not a.cd) (is a.bc)) ∷ []) (room_rest a.from c.before.before.before.before.before.before.before.before.before.before.before.before.before.put_three.result ((three (is_not a.bc) (is_not a.cd) (is a.bd)) ∷ []) ((three (is_not a.bc) (is_not a.bd) (is a.cd)) ∷ (three (is_not a.bd) (is_not a.cd) (is a.bc)) ∷ []) c.before.before.before.before.before.before.before.before.before.before.before.before.before.before.before.before.before.before.before.requires (wrote_as a.from a.buf.now (three_same c.before.before.before.before.before.before.before.before.before.before.before.before.before.before.before.before.before.is-not.ensures c.before.before.before.before.before.before.before.before.before.before.before.before.before.before.before.before.is-not2.ensures c.before.before.before.before.before.before.before.before.before.before.before.before.before.before.before.is.ensures) c.before.before.before.before.before.before.before.before.before.before.before.before.before.put_three.ensures).0) (wrote_as c.before.before.before.before.before.before.before.before.before.before.before.before.before.put_three.result c.before.before.before.before.before.before.before.before.before.before.before.before.before.put_three.new.1.1.1.1.0 (three_same c.before.before.before.before.before.before.before.before.before.before.is-not3.ensures c.before.before.before.before.before.before.before.before.before.is-not4.ensures c.before.before.before.before.before.before.before.before.is2.ensures) c.before.before.before.before.before.before.put-three2.ensures).0)
+    let a = c.args in
+    room_as c.put_three-second.result (sym (three_same c.is_not-5.ensures c.is_not-6.ensures c.is-3.ensures)) (room_rest c.put_three-first.result c.put_three-second.result ((three (is_not a.bc) (is_not a.bd) (is a.cd)) ∷ []) ((three (is_not a.bd) (is_not a.cd) (is a.bc)) ∷ []) (room_rest a.from c.put_three-first.result ((three (is_not a.bc) (is_not a.cd) (is a.bd)) ∷ []) ((three (is_not a.bc) (is_not a.bd) (is a.cd)) ∷ (three (is_not a.bd) (is_not a.cd) (is a.bc)) ∷ []) c.requires (wrote_as a.from a.buf.now (three_same c.is_not.ensures c.is_not-2.ensures c.is.ensures) c.put_three-first.ensures).0) (wrote_as c.put_three-first.result c.put_three-first.new.buf (three_same c.is_not-3.ensures c.is_not-4.ensures c.is-2.ensures) c.put_three-second.ensures).0)
 
 returns : tie.Need-returns
 returns c =
-    let a = c.before.before.before.before.before.before.before.before.before.before.before.before.before.before.before.before.before.before.before.before.before.before.args in
-    wrote_more a.from a.buf.now ((three (is_not a.bc) (is_not a.cd) (is a.bd)) ∷ []) ((three (is_not a.bc) (is_not a.bd) (is a.cd)) ∷ (three (is_not a.bd) (is_not a.cd) (is a.bc)) ∷ []) (wrote_as a.from a.buf.now (three_same c.before.before.before.before.before.before.before.before.before.before.before.before.before.before.before.before.before.before.before.before.is-not.ensures c.before.before.before.before.before.before.before.before.before.before.before.before.before.before.before.before.before.before.before.is-not2.ensures c.before.before.before.before.before.before.before.before.before.before.before.before.before.before.before.before.before.before.is.ensures) c.before.before.before.before.before.before.before.before.before.before.before.before.before.before.before.before.put_three.ensures) (wrote_more c.before.before.before.before.before.before.before.before.before.before.before.before.before.before.before.before.put_three.result c.before.before.before.before.before.before.before.before.before.before.before.before.before.before.before.before.put_three.new.1.1.1.1.0 ((three (is_not a.bc) (is_not a.bd) (is a.cd)) ∷ []) ((three (is_not a.bd) (is_not a.cd) (is a.bc)) ∷ []) (wrote_as c.before.before.before.before.before.before.before.before.before.before.before.before.before.before.before.before.put_three.result c.before.before.before.before.before.before.before.before.before.before.before.before.before.before.before.before.put_three.new.1.1.1.1.0 (three_same c.before.before.before.before.before.before.before.before.before.before.before.before.before.is-not3.ensures c.before.before.before.before.before.before.before.before.before.before.before.before.is-not4.ensures c.before.before.before.before.before.before.before.before.before.before.before.is2.ensures) c.before.before.before.before.before.before.before.before.before.put-three2.ensures) (wrote_as c.before.before.before.before.before.before.before.before.before.put-three2.result c.before.before.before.before.before.before.before.before.before.put-three2.new.1.1.1.1.0 (three_same c.before.before.before.before.before.before.is-not5.ensures c.before.before.before.before.before.is-not6.ensures c.before.before.before.before.is3.ensures) c.before.before.put-three3.ensures))
+    let a = c.args in
+    wrote_more a.from a.buf.now ((three (is_not a.bc) (is_not a.cd) (is a.bd)) ∷ []) ((three (is_not a.bc) (is_not a.bd) (is a.cd)) ∷ (three (is_not a.bd) (is_not a.cd) (is a.bc)) ∷ []) (wrote_as a.from a.buf.now (three_same c.is_not.ensures c.is_not-2.ensures c.is.ensures) c.put_three-first.ensures) (wrote_more c.put_three-first.result c.put_three-first.new.buf ((three (is_not a.bc) (is_not a.bd) (is a.cd)) ∷ []) ((three (is_not a.bd) (is_not a.cd) (is a.bc)) ∷ []) (wrote_as c.put_three-first.result c.put_three-first.new.buf (three_same c.is_not-3.ensures c.is_not-4.ensures c.is-2.ensures) c.put_three-second.ensures) (wrote_as c.put_three-second.result c.put_three-second.new.buf (three_same c.is_not-5.ensures c.is_not-6.ensures c.is-3.ensures) c.put_three.ensures))
 
 pub put_joining_spec : {M : Type 1} → statement M
 put_joining_spec =

@@ -12,17 +12,17 @@ use Rattle.dimacs.proofs.heads.put_number.Statement.{statement}
 use Rattle.dimacs.proofs.heads.put_number.Tie as tie
 
 -- there is room for the digits and one byte more
-room : (c : tie.After-slice-known2) → c.before.before.before.before.before.args.at + (c.before.before.put-decimal.result + 1) ≤ longest_clauses
+room : (c : tie.After-slice_known-2-1) → c.args.at + (c.put_decimal-digits.result + 1) ≤ longest_clauses
 room c =
-    let e = c.before.before.before.before.before in
-    omega (arith, c.before.before.put-decimal.ensures.0, length-append (decimal e.args.n) (e.args.end ∷ []), e.requires)
+    let e = c in
+    omega (arith, c.put_decimal-digits.ensures.0, length-append (decimal e.args.n) (e.args.end ∷ []), e.requires)
 
 returns : tie.Need-returns
 returns c =
-    let a = c.before.before.before.before.before.before.before.before.before.args in
-    let put = c.before.before.before.before.before.before.put-decimal in (
+    let a = c.args in
+    let put = c.put_decimal-digits in (
       omega (arith, put.ensures.0, length-append (decimal a.n) (a.end ∷ [])),
-      c.before.before.put_byte.ensures ∙ ap₂ (λ l k. set l (a.at + k) a.end) put.ensures.1 put.ensures.0 ∙ sym (laid_one _ _ _) ∙ laid_behind a.at (decimal a.n) (a.end ∷ []) a.buf.now,
+      c.put_byte.ensures ∙ ap₂ (λ l k. set l (a.at + k) a.end) put.ensures.1 put.ensures.0 ∙ sym (laid_one _ _ _) ∙ laid_behind a.at (decimal a.n) (a.end ∷ []) a.buf.now,
     )
 
 pub put_number_spec : {M : Type 1} → statement M

@@ -10,9 +10,9 @@ returns : tie.Need-returns
 unfolding laid
 returns c = (
   refl,
-  c.before.before.put-byte6.ensures
-      ∙ ap (λ l. set l 5 0x20) (c.before.before.before.before.before.before.put-byte5.ensures ∙ ap (λ l. set l 4 0x66) (c.before.before.before.before.before.before.before.before.before.before.put-byte4.ensures
-      ∙ ap (λ l. set l 3 0x6e) (c.before.before.before.before.before.before.before.before.before.before.before.before.before.before.put-byte3.ensures ∙ ap (λ l. set l 2 0x63) (c.before.before.before.before.before.before.before.before.before.before.before.before.before.before.before.before.before.before.put-byte2.ensures ∙ ap (λ l. set l 1 0x20) c.before.before.before.before.before.before.before.before.before.before.before.before.before.before.before.before.before.before.before.before.before.before.put_byte.ensures)))),
+  c.put_byte-6.ensures
+      ∙ ap (λ l. set l 5 0x20) (c.put_byte-5.ensures ∙ ap (λ l. set l 4 0x66) (c.put_byte-4.ensures
+      ∙ ap (λ l. set l 3 0x6e) (c.put_byte-3.ensures ∙ ap (λ l. set l 2 0x63) (c.put_byte-2.ensures ∙ ap (λ l. set l 1 0x20) c.put_byte.ensures)))),
 )
 
 pub put_problem_spec : {M : Type 1} → statement M

@@ -11,8 +11,8 @@ use Rattle.dimacs.proofs.literals.put_end.Tie as tie
 
 returns : tie.Need-returns
 returns c =
-    let a = c.before.before.before.before.before.before.before.before.before.args in
-    (refl, c.before.before.put-byte2.ensures ∙ ap (λ l. set l (a.at + 1) line_end) c.before.before.before.before.before.before.put_byte.ensures ∙ sym (laid_one _ line_end _) ∙ sym (laid_first a.at _ (line_end ∷ []) a.buf.now))
+    let a = c.args in
+    (refl, c.put_byte-2.ensures ∙ ap (λ l. set l (a.at + 1) line_end) c.put_byte.ensures ∙ sym (laid_one _ line_end _) ∙ sym (laid_first a.at _ (line_end ∷ []) a.buf.now))
 
 pub put_end_spec : {M : Type 1} → statement M
 put_end_spec =

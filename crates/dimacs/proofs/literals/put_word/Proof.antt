@@ -13,18 +13,18 @@ use Rattle.dimacs.proofs.literals.put_word.Statement.{statement}
 use Rattle.dimacs.proofs.literals.put_word.Tie as tie
 
 -- there is room for the literal's bytes and one more
-room : (c : tie.After-slice-known2) → c.before.before.before.before.before.args.at + (c.before.before.put-literal.result + 1) ≤ longest_clauses
+room : (c : tie.After-slice_known-2-1) → c.args.at + (c.put_literal-length.result + 1) ≤ longest_clauses
 room c =
-    let e = c.before.before.before.before.before in
-    omega (arith, c.before.before.put-literal.ensures.0, length-append (literal_text e.args.l) (space ∷ []), e.requires)
+    let e = c in
+    omega (arith, c.put_literal-length.ensures.0, length-append (literal_text e.args.l) (space ∷ []), e.requires)
 
 returns : tie.Need-returns
 returns c =
-    let a = c.before.before.before.before.before.before.before.before.before.args in
+    let a = c.args in
     let text = literal_text a.l in
-    let put = c.before.before.before.before.before.before.put-literal in (
+    let put = c.put_literal-length in (
       omega (arith, put.ensures.0, length-append text (space ∷ [])),
-      c.before.before.put_byte.ensures ∙ ap₂ (λ l k. set l (a.at + k) space) put.ensures.1 put.ensures.0 ∙ sym (laid_one _ _ _) ∙ laid_behind a.at text (space ∷ []) a.buf.now,
+      c.put_byte.ensures ∙ ap₂ (λ l k. set l (a.at + k) space) put.ensures.1 put.ensures.0 ∙ sym (laid_one _ _ _) ∙ laid_behind a.at text (space ∷ []) a.buf.now,
     )
 
 pub put_word_spec : {M : Type 1} → statement M

@@ -11,40 +11,40 @@ use Rattle.dimacs.proofs.WroteLaws.{room_rest, room_as, each_all, wrote_none, wr
 use Rattle.dimacs.proofs.pairs.put_pairs.Statement.{statement}
 use Rattle.dimacs.proofs.pairs.put_pairs.Tie as tie
 
-abbrev invariant-loop : tie.invariant-loop
+abbrev invariant-loop : tie.invariant-loop-c
 invariant-loop shape buf₀ terms cursor₀ c₀ buf cursor c = (0 ≤ c) × (c ≤ shape.terms) × Wrote cursor₀ (each (pairs_from shape.terms shape.sets) 0 c) buf₀ cursor buf
 
-abbrev decreases-loop : tie.decreases-loop
+abbrev decreases-loop : tie.decreases-loop-c
 decreases-loop shape buf₀ terms cursor₀ c₀ buf cursor c = shape.terms - c
 
-loop-holds : tie.Need-loop-init invariant-loop decreases-loop
+loop-holds : tie.Need-loop-c-init invariant-loop decreases-loop
 loop-holds c =
-    let a = c.before.args in
-    (omega arith, omega (arith, c.before.requires), wrote_as a.from a.buf.now (sym (each_none (pairs_from a.shape.terms a.shape.sets) 0 0 (omega arith))) (wrote_none a.from a.buf.now))
+    let a = c.args in
+    (omega arith, omega (arith, c.requires), wrote_as a.from a.buf.now (sym (each_none (pairs_from a.shape.terms a.shape.sets) 0 0 (omega arith))) (wrote_none a.from a.buf.now))
 
-put-pairs-from-requires : tie.Need-put-pairs-from-requires invariant-loop decreases-loop
+put-pairs-from-requires : tie.Need-put_pairs_from-cursor-requires invariant-loop decreases-loop
 put-pairs-from-requires c κs =
-    let a = c.before.before.before.before.args in
-    let l = c.before.before.loop in
-    (c.before.loop-test.true, room_rest a.from l.cursor (each (pairs_from a.shape.terms a.shape.sets) 0 l.c) ((pairs_from a.shape.terms a.shape.sets) l.c) (each_room (pairs_from a.shape.terms a.shape.sets) 0 a.from l.c a.shape.terms l.invariant.0 c.before.loop-test.true (room_as a.from (sym (each_all (pairs_from a.shape.terms a.shape.sets) a.shape.terms)) c.before.before.before.before.requires)) l.invariant.2.0)
+    let a = c.args in
+    let l = c.loop-c in
+    (c.loop-c-test.true, room_rest a.from l.cursor (each (pairs_from a.shape.terms a.shape.sets) 0 l.c) ((pairs_from a.shape.terms a.shape.sets) l.c) (each_room (pairs_from a.shape.terms a.shape.sets) 0 a.from l.c a.shape.terms l.invariant.0 c.loop-c-test.true (room_as a.from (sym (each_all (pairs_from a.shape.terms a.shape.sets) a.shape.terms)) c.requires)) l.invariant.2.0)
 
-loop-again : tie.Need-loop-preserved invariant-loop decreases-loop
+loop-again : tie.Need-loop-c-preserved invariant-loop decreases-loop
 loop-again c =
-    let a = c.before.before.before.before.before.before.before.args in
-    let l = c.before.before.before.before.before.loop in (
+    let a = c.args in
+    let l = c.loop-c in (
       omega (arith, l.invariant.0),
-      omega (arith, c.before.before.before.before.loop-test.true),
-      wrote_as a.from a.buf.now (sym (each_turn (pairs_from a.shape.terms a.shape.sets) 0 l.c l.invariant.0)) (wrote_more a.from a.buf.now (each (pairs_from a.shape.terms a.shape.sets) 0 l.c) ((pairs_from a.shape.terms a.shape.sets) l.c) l.invariant.2 c.before.before.put-pairs-from.ensures),
+      omega (arith, c.loop-c-test.true),
+      wrote_as a.from a.buf.now (sym (each_turn (pairs_from a.shape.terms a.shape.sets) 0 l.c l.invariant.0)) (wrote_more a.from a.buf.now (each (pairs_from a.shape.terms a.shape.sets) 0 l.c) ((pairs_from a.shape.terms a.shape.sets) l.c) l.invariant.2 c.put_pairs_from-cursor.ensures),
     )
 
-same_length : tie.Need-same-length invariant-loop decreases-loop
-same_length c = ap length c.before.loop.invariant.2.1 ∙ laid_length _ _ _
+same_length : tie.Need-shape_of-buf invariant-loop decreases-loop
+same_length c = ap length c.loop-c.invariant.2.1 ∙ laid_length _ _ _
 
 returns : tie.Need-returns invariant-loop decreases-loop
 returns c =
-    let a = c.before.before.before.args in
-    let l = c.before.loop in
-    let last : l.c ≡ a.shape.terms = omega (arith, l.invariant.1, c.loop-test.false) in
+    let a = c.args in
+    let l = c.loop-c in
+    let last : l.c ≡ a.shape.terms = omega (arith, l.invariant.1, c.loop-c-test.false) in
     wrote_as a.from a.buf.now (ap (each (pairs_from a.shape.terms a.shape.sets) 0) last ∙ each_all (pairs_from a.shape.terms a.shape.sets) a.shape.terms) l.invariant.2
 
 pub put_pairs_spec : {M : Type 1} → statement M

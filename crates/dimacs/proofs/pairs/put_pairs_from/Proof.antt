@@ -11,40 +11,40 @@ use Rattle.dimacs.proofs.WroteLaws.{room_rest, wrote_none, wrote_more, wrote_as,
 use Rattle.dimacs.proofs.pairs.put_pairs_from.Statement.{statement}
 use Rattle.dimacs.proofs.pairs.put_pairs_from.Tie as tie
 
-abbrev invariant-loop : tie.invariant-loop
+abbrev invariant-loop : tie.invariant-loop-d
 invariant-loop shape c buf₀ terms cursor₀ d₀ buf cursor d = ((suc c) ≤ d) × (d ≤ shape.terms) × Wrote cursor₀ (each (pairs_of shape.terms shape.sets c) (suc c) d) buf₀ cursor buf
 
-abbrev decreases-loop : tie.decreases-loop
+abbrev decreases-loop : tie.decreases-loop-d
 decreases-loop shape c buf₀ terms cursor₀ d₀ buf cursor d = shape.terms - d
 
-loop-holds : tie.Need-loop-init invariant-loop decreases-loop
+loop-holds : tie.Need-loop-d-init invariant-loop decreases-loop
 loop-holds c =
-    let a = c.before.args in
-    (omega arith, omega (arith, c.before.requires), wrote_as a.from a.buf.now (sym (each_none (pairs_of a.shape.terms a.shape.sets a.c) (suc a.c) (a.c + 1) (omega arith))) (wrote_none a.from a.buf.now))
+    let a = c.args in
+    (omega arith, omega (arith, c.requires), wrote_as a.from a.buf.now (sym (each_none (pairs_of a.shape.terms a.shape.sets a.c) (suc a.c) (a.c + 1) (omega arith))) (wrote_none a.from a.buf.now))
 
-put-pairs-of-requires : tie.Need-put-pairs-of-requires invariant-loop decreases-loop
+put-pairs-of-requires : tie.Need-put_pairs_of-cursor-requires invariant-loop decreases-loop
 put-pairs-of-requires c κs =
-    let a = c.before.before.before.before.args in
-    let l = c.before.before.loop in
-    room_rest a.from l.cursor (each (pairs_of a.shape.terms a.shape.sets a.c) (suc a.c) l.d) ((pairs_of a.shape.terms a.shape.sets a.c) l.d) (each_room (pairs_of a.shape.terms a.shape.sets a.c) (suc a.c) a.from l.d a.shape.terms l.invariant.0 c.before.loop-test.true c.before.before.before.before.requires.1) l.invariant.2.0
+    let a = c.args in
+    let l = c.loop-d in
+    room_rest a.from l.cursor (each (pairs_of a.shape.terms a.shape.sets a.c) (suc a.c) l.d) ((pairs_of a.shape.terms a.shape.sets a.c) l.d) (each_room (pairs_of a.shape.terms a.shape.sets a.c) (suc a.c) a.from l.d a.shape.terms l.invariant.0 c.loop-d-test.true c.requires.1) l.invariant.2.0
 
-loop-again : tie.Need-loop-preserved invariant-loop decreases-loop
+loop-again : tie.Need-loop-d-preserved invariant-loop decreases-loop
 loop-again c =
-    let a = c.before.before.before.before.before.before.before.args in
-    let l = c.before.before.before.before.before.loop in (
+    let a = c.args in
+    let l = c.loop-d in (
       omega (arith, l.invariant.0),
-      omega (arith, c.before.before.before.before.loop-test.true),
-      wrote_as a.from a.buf.now (sym (each_turn (pairs_of a.shape.terms a.shape.sets a.c) (suc a.c) l.d l.invariant.0)) (wrote_more a.from a.buf.now (each (pairs_of a.shape.terms a.shape.sets a.c) (suc a.c) l.d) ((pairs_of a.shape.terms a.shape.sets a.c) l.d) l.invariant.2 c.before.before.put-pairs-of.ensures),
+      omega (arith, c.loop-d-test.true),
+      wrote_as a.from a.buf.now (sym (each_turn (pairs_of a.shape.terms a.shape.sets a.c) (suc a.c) l.d l.invariant.0)) (wrote_more a.from a.buf.now (each (pairs_of a.shape.terms a.shape.sets a.c) (suc a.c) l.d) ((pairs_of a.shape.terms a.shape.sets a.c) l.d) l.invariant.2 c.put_pairs_of-cursor.ensures),
     )
 
-same_length : tie.Need-same-length invariant-loop decreases-loop
-same_length c = ap length c.before.loop.invariant.2.1 ∙ laid_length _ _ _
+same_length : tie.Need-shape_of-buf invariant-loop decreases-loop
+same_length c = ap length c.loop-d.invariant.2.1 ∙ laid_length _ _ _
 
 returns : tie.Need-returns invariant-loop decreases-loop
 returns c =
-    let a = c.before.before.before.args in
-    let l = c.before.loop in
-    let last : l.d ≡ a.shape.terms = omega (arith, l.invariant.1, c.loop-test.false) in
+    let a = c.args in
+    let l = c.loop-d in
+    let last : l.d ≡ a.shape.terms = omega (arith, l.invariant.1, c.loop-d-test.false) in
     wrote_as a.from a.buf.now (ap (each (pairs_of a.shape.terms a.shape.sets a.c) (suc a.c)) last) l.invariant.2
 
 pub put_pairs_from_spec : {M : Type 1} → statement M
@@ -53,7 +53,7 @@ put_pairs_from_spec =
     (tie.spec
     invariant-loop
     decreases-loop
-    (λ c. omega (arith, c.before.requires.0))
+    (λ c. omega (arith, c.requires.0))
     loop-holds
     put-pairs-of-requires
     (λ c. search rules)

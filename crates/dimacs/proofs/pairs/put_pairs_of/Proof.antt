@@ -11,40 +11,40 @@ use Rattle.dimacs.proofs.WroteLaws.{room_rest, room_as, each_all, wrote_none, wr
 use Rattle.dimacs.proofs.pairs.put_pairs_of.Statement.{statement}
 use Rattle.dimacs.proofs.pairs.put_pairs_of.Tie as tie
 
-abbrev invariant-loop : tie.invariant-loop
+abbrev invariant-loop : tie.invariant-loop-x
 invariant-loop shape c d buf₀ sets cursor₀ x₀ buf cursor x = (0 ≤ x) × (x ≤ shape.sets) × Wrote cursor₀ (each (pair_clauses shape.terms shape.sets c d) 0 x) buf₀ cursor buf
 
-abbrev decreases-loop : tie.decreases-loop
+abbrev decreases-loop : tie.decreases-loop-x
 decreases-loop shape c d buf₀ sets cursor₀ x₀ buf cursor x = shape.sets - x
 
-loop-holds : tie.Need-loop-init invariant-loop decreases-loop
+loop-holds : tie.Need-loop-x-init invariant-loop decreases-loop
 loop-holds c =
-    let a = c.before.args in
-    (omega arith, omega (arith, c.before.requires), wrote_as a.from a.buf.now (sym (each_none (pair_clauses a.shape.terms a.shape.sets a.c a.d) 0 0 (omega arith))) (wrote_none a.from a.buf.now))
+    let a = c.args in
+    (omega arith, omega (arith, c.requires), wrote_as a.from a.buf.now (sym (each_none (pair_clauses a.shape.terms a.shape.sets a.c a.d) 0 0 (omega arith))) (wrote_none a.from a.buf.now))
 
-put-pair-requires : tie.Need-put-pair-requires invariant-loop decreases-loop
+put-pair-requires : tie.Need-put_pair-cursor-requires invariant-loop decreases-loop
 put-pair-requires c κs =
-    let a = c.before.before.before.before.args in
-    let l = c.before.before.loop in
-    room_rest a.from l.cursor (each (pair_clauses a.shape.terms a.shape.sets a.c a.d) 0 l.x) ((pair_clauses a.shape.terms a.shape.sets a.c a.d) l.x) (each_room (pair_clauses a.shape.terms a.shape.sets a.c a.d) 0 a.from l.x a.shape.sets l.invariant.0 c.before.loop-test.true (room_as a.from (sym (each_all (pair_clauses a.shape.terms a.shape.sets a.c a.d) a.shape.sets)) c.before.before.before.before.requires)) l.invariant.2.0
+    let a = c.args in
+    let l = c.loop-x in
+    room_rest a.from l.cursor (each (pair_clauses a.shape.terms a.shape.sets a.c a.d) 0 l.x) ((pair_clauses a.shape.terms a.shape.sets a.c a.d) l.x) (each_room (pair_clauses a.shape.terms a.shape.sets a.c a.d) 0 a.from l.x a.shape.sets l.invariant.0 c.loop-x-test.true (room_as a.from (sym (each_all (pair_clauses a.shape.terms a.shape.sets a.c a.d) a.shape.sets)) c.requires)) l.invariant.2.0
 
-loop-again : tie.Need-loop-preserved invariant-loop decreases-loop
+loop-again : tie.Need-loop-x-preserved invariant-loop decreases-loop
 loop-again c =
-    let a = c.before.before.before.before.before.before.before.args in
-    let l = c.before.before.before.before.before.loop in (
+    let a = c.args in
+    let l = c.loop-x in (
       omega (arith, l.invariant.0),
-      omega (arith, c.before.before.before.before.loop-test.true),
-      wrote_as a.from a.buf.now (sym (each_turn (pair_clauses a.shape.terms a.shape.sets a.c a.d) 0 l.x l.invariant.0)) (wrote_more a.from a.buf.now (each (pair_clauses a.shape.terms a.shape.sets a.c a.d) 0 l.x) ((pair_clauses a.shape.terms a.shape.sets a.c a.d) l.x) l.invariant.2 c.before.before.put-pair.ensures),
+      omega (arith, c.loop-x-test.true),
+      wrote_as a.from a.buf.now (sym (each_turn (pair_clauses a.shape.terms a.shape.sets a.c a.d) 0 l.x l.invariant.0)) (wrote_more a.from a.buf.now (each (pair_clauses a.shape.terms a.shape.sets a.c a.d) 0 l.x) ((pair_clauses a.shape.terms a.shape.sets a.c a.d) l.x) l.invariant.2 c.put_pair-cursor.ensures),
     )
 
-same_length : tie.Need-same-length invariant-loop decreases-loop
-same_length c = ap length c.before.loop.invariant.2.1 ∙ laid_length _ _ _
+same_length : tie.Need-shape_of-buf invariant-loop decreases-loop
+same_length c = ap length c.loop-x.invariant.2.1 ∙ laid_length _ _ _
 
 returns : tie.Need-returns invariant-loop decreases-loop
 returns c =
-    let a = c.before.before.before.args in
-    let l = c.before.loop in
-    let last : l.x ≡ a.shape.sets = omega (arith, l.invariant.1, c.loop-test.false) in
+    let a = c.args in
+    let l = c.loop-x in
+    let last : l.x ≡ a.shape.sets = omega (arith, l.invariant.1, c.loop-x-test.false) in
     wrote_as a.from a.buf.now (ap (each (pair_clauses a.shape.terms a.shape.sets a.c a.d) 0) last ∙ each_all (pair_clauses a.shape.terms a.shape.sets a.c a.d) a.shape.sets) l.invariant.2
 
 pub put_pairs_of_spec : {M : Type 1} → statement M

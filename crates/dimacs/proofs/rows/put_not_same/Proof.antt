@@ -11,25 +11,25 @@ use Rattle.dimacs.proofs.WroteLaws.{room_first, room_rest, room_as, one_same, wr
 use Rattle.dimacs.proofs.rows.put_not_same.Statement.{statement}
 use Rattle.dimacs.proofs.rows.put_not_same.Tie as tie
 
-put-spare-requires : tie.Need-put-spare-requires
+put-spare-requires : tie.Need-put_spare-requires
 put-spare-requires c κs =
-    let a = c.before.before.before.args in
-    room_as a.from (ap (λ b. cond b (never a.shape.terms a.shape.sets) (one (is_not (same_variable a.shape.terms a.shape.sets a.c a.d)) ∷ [])) (eq-eqb a.c a.d c.before.if1.true)) c.before.before.before.requires
+    let a = c.args in
+    room_as a.from (ap (λ b. cond b (never a.shape.terms a.shape.sets) (one (is_not (same_variable a.shape.terms a.shape.sets a.c a.d)) ∷ [])) (eq-eqb a.c a.d c.if-c-d.true)) c.requires
 
-returns : tie.Need-returns
+returns : tie.Need-returns-then-c-d
 returns c =
-    let a = c.before.before.before.before.before.before.args in
-    wrote_as a.from a.buf.now (sym (ap (λ b. cond b (never a.shape.terms a.shape.sets) (one (is_not (same_variable a.shape.terms a.shape.sets a.c a.d)) ∷ [])) (eq-eqb a.c a.d c.before.before.before.before.if1.true))) c.before.before.put-spare.ensures
+    let a = c.args in
+    wrote_as a.from a.buf.now (sym (ap (λ b. cond b (never a.shape.terms a.shape.sets) (one (is_not (same_variable a.shape.terms a.shape.sets a.c a.d)) ∷ [])) (eq-eqb a.c a.d c.if-c-d.true))) c.put_spare.ensures
 
-put-one-requires : tie.Need-put-one-requires
+put-one-requires : tie.Need-put_one-requires
 put-one-requires c κs =
-    let a = c.before.before.before.before.before.args in
-    room_as a.from ((ap (λ b. cond b (never a.shape.terms a.shape.sets) (one (is_not (same_variable a.shape.terms a.shape.sets a.c a.d)) ∷ [])) (ne_eqb a.c a.d c.before.before.before.if1.false)) ∙ sym (one_same (c.before.is-not.ensures ∙ ap is_not c.before.before.same-variable.ensures))) c.before.before.before.before.before.requires
+    let a = c.args in
+    room_as a.from ((ap (λ b. cond b (never a.shape.terms a.shape.sets) (one (is_not (same_variable a.shape.terms a.shape.sets a.c a.d)) ∷ [])) (ne_eqb a.c a.d c.if-c-d.false)) ∙ sym (one_same (c.is_not.ensures ∙ ap is_not c.same_variable-cd.ensures))) c.requires
 
-returns-2 : tie.Need-returns-2
+returns-2 : tie.Need-returns
 returns-2 c =
-    let a = c.before.before.before.before.before.before.before.before.args in
-    wrote_as a.from a.buf.now ((one_same (c.before.before.before.before.is-not.ensures ∙ ap is_not c.before.before.before.before.before.same-variable.ensures)) ∙ sym (ap (λ b. cond b (never a.shape.terms a.shape.sets) (one (is_not (same_variable a.shape.terms a.shape.sets a.c a.d)) ∷ [])) (ne_eqb a.c a.d c.before.before.before.before.before.before.if1.false))) c.before.before.put_one.ensures
+    let a = c.args in
+    wrote_as a.from a.buf.now ((one_same (c.is_not.ensures ∙ ap is_not c.same_variable-cd.ensures)) ∙ sym (ap (λ b. cond b (never a.shape.terms a.shape.sets) (one (is_not (same_variable a.shape.terms a.shape.sets a.c a.d)) ∷ [])) (ne_eqb a.c a.d c.if-c-d.false))) c.put_one.ensures
 
 pub put_not_same_spec : {M : Type 1} → statement M
 put_not_same_spec =

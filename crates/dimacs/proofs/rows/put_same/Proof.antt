@@ -11,20 +11,20 @@ use Rattle.dimacs.proofs.WroteLaws.{room_first, room_rest, room_as, one_same, wr
 use Rattle.dimacs.proofs.rows.put_same.Statement.{statement}
 use Rattle.dimacs.proofs.rows.put_same.Tie as tie
 
-returns : tie.Need-returns
+returns : tie.Need-returns-then-c-d
 returns c =
-    let a = c.before.before.args in
-    wrote_as a.from a.buf.now (sym (ap (λ b. cond b [] (one (is (same_variable a.shape.terms a.shape.sets a.c a.d)) ∷ [])) (eq-eqb a.c a.d c.if1.true))) (wrote_none a.from a.buf.now)
+    let a = c.args in
+    wrote_as a.from a.buf.now (sym (ap (λ b. cond b [] (one (is (same_variable a.shape.terms a.shape.sets a.c a.d)) ∷ [])) (eq-eqb a.c a.d c.if-c-d.true))) (wrote_none a.from a.buf.now)
 
-put-one-requires : tie.Need-put-one-requires
+put-one-requires : tie.Need-put_one-requires
 put-one-requires c κs =
-    let a = c.before.before.before.before.before.args in
-    room_as a.from ((ap (λ b. cond b [] (one (is (same_variable a.shape.terms a.shape.sets a.c a.d)) ∷ [])) (ne_eqb a.c a.d c.before.before.before.if1.false)) ∙ sym (one_same (c.before.is.ensures ∙ ap is c.before.before.same-variable.ensures))) c.before.before.before.before.before.requires
+    let a = c.args in
+    room_as a.from ((ap (λ b. cond b [] (one (is (same_variable a.shape.terms a.shape.sets a.c a.d)) ∷ [])) (ne_eqb a.c a.d c.if-c-d.false)) ∙ sym (one_same (c.is.ensures ∙ ap is c.same_variable-cd.ensures))) c.requires
 
-returns-2 : tie.Need-returns-2
+returns-2 : tie.Need-returns
 returns-2 c =
-    let a = c.before.before.before.before.before.before.before.before.args in
-    wrote_as a.from a.buf.now ((one_same (c.before.before.before.before.is.ensures ∙ ap is c.before.before.before.before.before.same-variable.ensures)) ∙ sym (ap (λ b. cond b [] (one (is (same_variable a.shape.terms a.shape.sets a.c a.d)) ∷ [])) (ne_eqb a.c a.d c.before.before.before.before.before.before.if1.false))) c.before.before.put_one.ensures
+    let a = c.args in
+    wrote_as a.from a.buf.now ((one_same (c.is.ensures ∙ ap is c.same_variable-cd.ensures)) ∙ sym (ap (λ b. cond b [] (one (is (same_variable a.shape.terms a.shape.sets a.c a.d)) ∷ [])) (ne_eqb a.c a.d c.if-c-d.false))) c.put_one.ensures
 
 pub put_same_spec : {M : Type 1} → statement M
 put_same_spec =

@@ -11,25 +11,25 @@ use Rattle.dimacs.proofs.WroteLaws.{room_first, room_rest, room_as, one_same, wr
 use Rattle.dimacs.proofs.rows.put_single.Statement.{statement}
 use Rattle.dimacs.proofs.rows.put_single.Tie as tie
 
-put-one-requires : tie.Need-put-one-requires
+put-one-requires : tie.Need-put_one-requires
 put-one-requires c κs =
-    let a = c.before.before.before.before.before.args in
-    room_as a.from ((ap (λ b. cond b (one (is (in_variable a.shape.terms a.shape.sets a.c a.x)) ∷ []) (exactly_if (in_variable a.shape.terms a.shape.sets a.c a.x) (same_variable a.shape.terms a.shape.sets a.c a.a))) (eq-eqb a.c a.a c.before.before.if1.true)) ∙ sym (one_same (c.before.is.ensures ∙ ap is c.before.before.before.in-variable.ensures))) c.before.before.before.before.before.requires
+    let a = c.args in
+    room_as a.from ((ap (λ b. cond b (one (is (in_variable a.shape.terms a.shape.sets a.c a.x)) ∷ []) (exactly_if (in_variable a.shape.terms a.shape.sets a.c a.x) (same_variable a.shape.terms a.shape.sets a.c a.a))) (eq-eqb a.c a.a c.if-c-a.true)) ∙ sym (one_same (c.is.ensures ∙ ap is c.in_variable-p.ensures))) c.requires
 
-returns : tie.Need-returns
+returns : tie.Need-returns-then-c-a
 returns c =
-    let a = c.before.before.before.before.before.before.before.before.args in
-    wrote_as a.from a.buf.now ((one_same (c.before.before.before.before.is.ensures ∙ ap is c.before.before.before.before.before.before.in-variable.ensures)) ∙ sym (ap (λ b. cond b (one (is (in_variable a.shape.terms a.shape.sets a.c a.x)) ∷ []) (exactly_if (in_variable a.shape.terms a.shape.sets a.c a.x) (same_variable a.shape.terms a.shape.sets a.c a.a))) (eq-eqb a.c a.a c.before.before.before.before.before.if1.true))) c.before.before.put_one.ensures
+    let a = c.args in
+    wrote_as a.from a.buf.now ((one_same (c.is.ensures ∙ ap is c.in_variable-p.ensures)) ∙ sym (ap (λ b. cond b (one (is (in_variable a.shape.terms a.shape.sets a.c a.x)) ∷ []) (exactly_if (in_variable a.shape.terms a.shape.sets a.c a.x) (same_variable a.shape.terms a.shape.sets a.c a.a))) (eq-eqb a.c a.a c.if-c-a.true))) c.put_one.ensures
 
-put-exactly-if-requires : tie.Need-put-exactly-if-requires
+put-exactly-if-requires : tie.Need-put_exactly_if-requires
 put-exactly-if-requires c κs =
-    let a = c.before.before.before.before.before.args in
-    room_as a.from ((ap (λ b. cond b (one (is (in_variable a.shape.terms a.shape.sets a.c a.x)) ∷ []) (exactly_if (in_variable a.shape.terms a.shape.sets a.c a.x) (same_variable a.shape.terms a.shape.sets a.c a.a))) (ne_eqb a.c a.a c.before.before.if1.false)) ∙ sym (ap₂ exactly_if c.before.before.before.in-variable.ensures c.before.same-variable.ensures)) c.before.before.before.before.before.requires
+    let a = c.args in
+    room_as a.from ((ap (λ b. cond b (one (is (in_variable a.shape.terms a.shape.sets a.c a.x)) ∷ []) (exactly_if (in_variable a.shape.terms a.shape.sets a.c a.x) (same_variable a.shape.terms a.shape.sets a.c a.a))) (ne_eqb a.c a.a c.if-c-a.false)) ∙ sym (ap₂ exactly_if c.in_variable-p.ensures c.same_variable-q.ensures)) c.requires
 
-returns-2 : tie.Need-returns-2
+returns-2 : tie.Need-returns
 returns-2 c =
-    let a = c.before.before.before.before.before.before.before.before.args in
-    wrote_as a.from a.buf.now ((ap₂ exactly_if c.before.before.before.before.before.before.in-variable.ensures c.before.before.before.before.same-variable.ensures) ∙ sym (ap (λ b. cond b (one (is (in_variable a.shape.terms a.shape.sets a.c a.x)) ∷ []) (exactly_if (in_variable a.shape.terms a.shape.sets a.c a.x) (same_variable a.shape.terms a.shape.sets a.c a.a))) (ne_eqb a.c a.a c.before.before.before.before.before.if1.false))) c.before.before.put-exactly-if.ensures
+    let a = c.args in
+    wrote_as a.from a.buf.now ((ap₂ exactly_if c.in_variable-p.ensures c.same_variable-q.ensures) ∙ sym (ap (λ b. cond b (one (is (in_variable a.shape.terms a.shape.sets a.c a.x)) ∷ []) (exactly_if (in_variable a.shape.terms a.shape.sets a.c a.x) (same_variable a.shape.terms a.shape.sets a.c a.a))) (ne_eqb a.c a.a c.if-c-a.false))) c.put_exactly_if.ensures
 
 pub put_single_spec : {M : Type 1} → statement M
 put_single_spec =

@@ -11,20 +11,20 @@ use Rattle.dimacs.proofs.WroteLaws.{room_first, room_rest, room_as, one_same, wr
 use Rattle.dimacs.proofs.rows.put_spare.Statement.{statement}
 use Rattle.dimacs.proofs.rows.put_spare.Tie as tie
 
-put-one-requires : tie.Need-put-one-requires
+put-one-requires : tie.Need-put_one-first-requires
 put-one-requires c κs =
-    let a = c.before.before.before.before.args in
-    room_as a.from (sym (one_same (c.before.is.ensures ∙ ap is c.before.before.spare-variable.ensures))) (room_first a.from (one (is (spare_variable a.shape.terms a.shape.sets)) ∷ []) (one (is_not (spare_variable a.shape.terms a.shape.sets)) ∷ []) c.before.before.before.before.requires)
+    let a = c.args in
+    room_as a.from (sym (one_same (c.is.ensures ∙ ap is c.spare_variable-spare.ensures))) (room_first a.from (one (is (spare_variable a.shape.terms a.shape.sets)) ∷ []) (one (is_not (spare_variable a.shape.terms a.shape.sets)) ∷ []) c.requires)
 
-put-one-requires-2 : tie.Need-put-one-requires-2
+put-one-requires-2 : tie.Need-put_one-requires
 put-one-requires-2 c κs =
-    let a = c.before.before.before.before.before.before.before.before.before.args in
-    room_as c.before.before.before.before.put_one.result (sym (one_same (c.before.is-not.ensures ∙ ap is_not c.before.before.before.before.before.before.before.spare-variable.ensures))) (room_rest a.from c.before.before.before.before.put_one.result (one (is (spare_variable a.shape.terms a.shape.sets)) ∷ []) (one (is_not (spare_variable a.shape.terms a.shape.sets)) ∷ []) c.before.before.before.before.before.before.before.before.before.requires (wrote_as a.from a.buf.now (one_same (c.before.before.before.before.before.before.is.ensures ∙ ap is c.before.before.before.before.before.before.before.spare-variable.ensures)) c.before.before.before.before.put_one.ensures).0)
+    let a = c.args in
+    room_as c.put_one-first.result (sym (one_same (c.is_not.ensures ∙ ap is_not c.spare_variable-spare.ensures))) (room_rest a.from c.put_one-first.result (one (is (spare_variable a.shape.terms a.shape.sets)) ∷ []) (one (is_not (spare_variable a.shape.terms a.shape.sets)) ∷ []) c.requires (wrote_as a.from a.buf.now (one_same (c.is.ensures ∙ ap is c.spare_variable-spare.ensures)) c.put_one-first.ensures).0)
 
 returns : tie.Need-returns
 returns c =
-    let a = c.before.before.before.before.before.before.before.before.before.before.before.before.args in
-    wrote_more a.from a.buf.now (one (is (spare_variable a.shape.terms a.shape.sets)) ∷ []) (one (is_not (spare_variable a.shape.terms a.shape.sets)) ∷ []) (wrote_as a.from a.buf.now (one_same (c.before.before.before.before.before.before.before.before.before.is.ensures ∙ ap is c.before.before.before.before.before.before.before.before.before.before.spare-variable.ensures)) c.before.before.before.before.before.before.before.put_one.ensures) (wrote_as c.before.before.before.before.before.before.before.put_one.result c.before.before.before.before.before.before.before.put_one.new.1.1.0 (one_same (c.before.before.before.before.is-not.ensures ∙ ap is_not c.before.before.before.before.before.before.before.before.before.before.spare-variable.ensures)) c.before.before.put-one2.ensures)
+    let a = c.args in
+    wrote_more a.from a.buf.now (one (is (spare_variable a.shape.terms a.shape.sets)) ∷ []) (one (is_not (spare_variable a.shape.terms a.shape.sets)) ∷ []) (wrote_as a.from a.buf.now (one_same (c.is.ensures ∙ ap is c.spare_variable-spare.ensures)) c.put_one-first.ensures) (wrote_as c.put_one-first.result c.put_one-first.new.buf (one_same (c.is_not.ensures ∙ ap is_not c.spare_variable-spare.ensures)) c.put_one.ensures)
 
 pub put_spare_spec : {M : Type 1} → statement M
 put_spare_spec =

@@ -6,11 +6,11 @@ use Rattle.dimacs.proofs.WroteLaws.{room_as, of_three, wrote_as}
 use Rattle.dimacs.proofs.triples.put_triple.Statement.{statement}
 use Rattle.dimacs.proofs.triples.put_triple.Tie as tie
 
-put-joining-requires : tie.Need-put-joining-requires
-put-joining-requires c κs = room_as c.before.before.before.before.before.args.from (sym (of_three joining c.before.before.before.pair-variable.ensures c.before.before.pair-variable2.ensures c.before.pair-variable3.ensures)) c.before.before.before.before.before.requires
+put-joining-requires : tie.Need-put_joining-requires
+put-joining-requires c κs = room_as c.args.from (sym (of_three joining c.pair_variable-bc.ensures c.pair_variable-cd.ensures c.pair_variable-bd.ensures)) c.requires
 
 returns : tie.Need-returns
-returns c = wrote_as c.before.before.before.before.before.before.before.before.args.from c.before.before.before.before.before.before.before.before.args.buf.now (of_three joining c.before.before.before.before.before.before.pair-variable.ensures c.before.before.before.before.before.pair-variable2.ensures c.before.before.before.before.pair-variable3.ensures) c.before.before.put-joining.ensures
+returns c = wrote_as c.args.from c.args.buf.now (of_three joining c.pair_variable-bc.ensures c.pair_variable-cd.ensures c.pair_variable-bd.ensures) c.put_joining.ensures
 
 pub put_triple_spec : {M : Type 1} → statement M
 put_triple_spec =

@@ -11,40 +11,40 @@ use Rattle.dimacs.proofs.WroteLaws.{room_rest, wrote_none, wrote_more, wrote_as,
 use Rattle.dimacs.proofs.triples.put_triples_from.Statement.{statement}
 use Rattle.dimacs.proofs.triples.put_triples_from.Tie as tie
 
-abbrev invariant-loop : tie.invariant-loop
+abbrev invariant-loop : tie.invariant-loop-c
 invariant-loop shape b buf₀ terms cursor₀ c₀ buf cursor c = ((suc b) ≤ c) × (c ≤ shape.terms) × Wrote cursor₀ (each (triples_of shape.terms shape.sets b) (suc b) c) buf₀ cursor buf
 
-abbrev decreases-loop : tie.decreases-loop
+abbrev decreases-loop : tie.decreases-loop-c
 decreases-loop shape b buf₀ terms cursor₀ c₀ buf cursor c = shape.terms - c
 
-loop-holds : tie.Need-loop-init invariant-loop decreases-loop
+loop-holds : tie.Need-loop-c-init invariant-loop decreases-loop
 loop-holds c =
-    let a = c.before.args in
-    (omega arith, omega (arith, c.before.requires), wrote_as a.from a.buf.now (sym (each_none (triples_of a.shape.terms a.shape.sets a.b) (suc a.b) (a.b + 1) (omega arith))) (wrote_none a.from a.buf.now))
+    let a = c.args in
+    (omega arith, omega (arith, c.requires), wrote_as a.from a.buf.now (sym (each_none (triples_of a.shape.terms a.shape.sets a.b) (suc a.b) (a.b + 1) (omega arith))) (wrote_none a.from a.buf.now))
 
-put-triples-of-requires : tie.Need-put-triples-of-requires invariant-loop decreases-loop
+put-triples-of-requires : tie.Need-put_triples_of-cursor-requires invariant-loop decreases-loop
 put-triples-of-requires c κs =
-    let a = c.before.before.before.before.args in
-    let l = c.before.before.loop in
-    (c.before.loop-test.true, room_rest a.from l.cursor (each (triples_of a.shape.terms a.shape.sets a.b) (suc a.b) l.c) ((triples_of a.shape.terms a.shape.sets a.b) l.c) (each_room (triples_of a.shape.terms a.shape.sets a.b) (suc a.b) a.from l.c a.shape.terms l.invariant.0 c.before.loop-test.true c.before.before.before.before.requires.1) l.invariant.2.0)
+    let a = c.args in
+    let l = c.loop-c in
+    (c.loop-c-test.true, room_rest a.from l.cursor (each (triples_of a.shape.terms a.shape.sets a.b) (suc a.b) l.c) ((triples_of a.shape.terms a.shape.sets a.b) l.c) (each_room (triples_of a.shape.terms a.shape.sets a.b) (suc a.b) a.from l.c a.shape.terms l.invariant.0 c.loop-c-test.true c.requires.1) l.invariant.2.0)
 
-loop-again : tie.Need-loop-preserved invariant-loop decreases-loop
+loop-again : tie.Need-loop-c-preserved invariant-loop decreases-loop
 loop-again c =
-    let a = c.before.before.before.before.before.before.before.args in
-    let l = c.before.before.before.before.before.loop in (
+    let a = c.args in
+    let l = c.loop-c in (
       omega (arith, l.invariant.0),
-      omega (arith, c.before.before.before.before.loop-test.true),
-      wrote_as a.from a.buf.now (sym (each_turn (triples_of a.shape.terms a.shape.sets a.b) (suc a.b) l.c l.invariant.0)) (wrote_more a.from a.buf.now (each (triples_of a.shape.terms a.shape.sets a.b) (suc a.b) l.c) ((triples_of a.shape.terms a.shape.sets a.b) l.c) l.invariant.2 c.before.before.put-triples-of.ensures),
+      omega (arith, c.loop-c-test.true),
+      wrote_as a.from a.buf.now (sym (each_turn (triples_of a.shape.terms a.shape.sets a.b) (suc a.b) l.c l.invariant.0)) (wrote_more a.from a.buf.now (each (triples_of a.shape.terms a.shape.sets a.b) (suc a.b) l.c) ((triples_of a.shape.terms a.shape.sets a.b) l.c) l.invariant.2 c.put_triples_of-cursor.ensures),
     )
 
-same_length : tie.Need-same-length invariant-loop decreases-loop
-same_length c = ap length c.before.loop.invariant.2.1 ∙ laid_length _ _ _
+same_length : tie.Need-shape_of-buf invariant-loop decreases-loop
+same_length c = ap length c.loop-c.invariant.2.1 ∙ laid_length _ _ _
 
 returns : tie.Need-returns invariant-loop decreases-loop
 returns c =
-    let a = c.before.before.before.args in
-    let l = c.before.loop in
-    let last : l.c ≡ a.shape.terms = omega (arith, l.invariant.1, c.loop-test.false) in
+    let a = c.args in
+    let l = c.loop-c in
+    let last : l.c ≡ a.shape.terms = omega (arith, l.invariant.1, c.loop-c-test.false) in
     wrote_as a.from a.buf.now (ap (each (triples_of a.shape.terms a.shape.sets a.b) (suc a.b)) last) l.invariant.2
 
 pub put_triples_from_spec : {M : Type 1} → statement M
@@ -53,7 +53,7 @@ put_triples_from_spec =
     (tie.spec
     invariant-loop
     decreases-loop
-    (λ c. omega (arith, c.before.requires.0))
+    (λ c. omega (arith, c.requires.0))
     loop-holds
     put-triples-of-requires
     (λ c. search rules)

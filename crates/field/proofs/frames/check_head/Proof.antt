@@ -11,31 +11,31 @@ use Rattle.field.proofs.frames.check_head.Statement.{statement}
 use Rattle.field.proofs.frames.check_head.Tie as tie
 
 -- the definition with what the calls gave
-asked : (c : tie.After-allows) →
-    let a = c.before.before.before.before.args in
+asked : (c : tie.After-allows-in_place) →
+    let a = c.args in
     framed a.file a.due a.size a.tag a.length a.left ≡
-    cond (not c.before.before.is_Known.result) (Refused tag_unknown)
-    (cond (not c.allows.result) (Refused tag_out_of_place)
-    (cond (not c.before.is-allowed.result) (Refused wrong_length)
+    cond (not c.is_known-known.result) (Refused tag_unknown)
+    (cond (not c.allows-in_place.result) (Refused tag_out_of_place)
+    (cond (not c.is_allowed-allowed.result) (Refused wrong_length)
     (cond (ltb a.left a.length) (Refused data_ends)
     (Sound a.tag a.length))))
 unfolding framed
-asked c = rw (c.before.before.is_Known.ensures, c.before.is-allowed.ensures, c.allows.ensures, c.before.before.before.length-of.ensures)
+asked c = rw (c.is_known-known.ensures, c.is_allowed-allowed.ensures, c.allows-in_place.ensures, c.length_of-listed.ensures)
 
-returns : tie.Need-returns
-returns c = sym (rw c.if1.true at (asked c.before))
+returns : tie.Need-returns-then-not-known
+returns c = sym (rw c.if-not-known.true at (asked c.before))
 
-returns-2 : tie.Need-returns-2
-returns-2 c = sym (rw (c.before.if1.false, c.if2.true) at (asked c.before.before))
+returns-2 : tie.Need-returns-then-not-in_place
+returns-2 c = sym (rw (c.if-not-known.false, c.if-not-in_place.true) at (asked c.before.before))
 
-returns-3 : tie.Need-returns-3
-returns-3 c = sym (rw (c.before.before.if1.false, c.before.if2.false, c.if3.true) at (asked c.before.before.before))
+returns-3 : tie.Need-returns-then-not-allowed
+returns-3 c = sym (rw (c.if-not-known.false, c.if-not-in_place.false, c.if-not-allowed.true) at (asked c.before.before.before))
 
-returns-4 : tie.Need-returns-4
-returns-4 c = sym (rw (c.before.before.before.if1.false, c.before.before.if2.false, c.before.if3.false, lt-ltb _ _ c.if4.true) at (asked c.before.before.before.before))
+returns-4 : tie.Need-returns-then-left-length
+returns-4 c = sym (rw (c.if-not-known.false, c.if-not-in_place.false, c.if-not-allowed.false, lt-ltb _ _ c.if-left-length.true) at (asked c.before.before.before.before))
 
-returns-5 : tie.Need-returns-5
-returns-5 c = sym (rw (c.before.before.before.if1.false, c.before.before.if2.false, c.before.if3.false, le-ltb _ _ c.if4.false) at (asked c.before.before.before.before))
+returns-5 : tie.Need-returns
+returns-5 c = sym (rw (c.if-not-known.false, c.if-not-in_place.false, c.if-not-allowed.false, le-ltb _ _ c.if-left-length.false) at (asked c.before.before.before.before))
 
 pub check_head_spec : {M : Type 1} → statement M
 check_head_spec =

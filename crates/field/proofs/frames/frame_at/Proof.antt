@@ -12,30 +12,29 @@ use Rattle.field.proofs.frames.frame_at.Statement.{statement}
 use Rattle.field.proofs.frames.frame_at.Tie as tie
 
 -- the head, which has its three bytes
-whole : (c : tie.After-known-told) →
-    let a = c.before.before.before.before.before.args in
-    let head = c.before.tag.given.0 in
-    head_of (drop a.at a.bytes.now) ≡ Whole head.0 head.1.0
-whole c = sym c.before.before.before.head_at.ensures ∙ c.before.tag.given.1
+whole : (c : tie.In-Whole) →
+    let a = c.args in
+    head_of (drop a.at a.bytes.now) ≡ Whole c.in-Whole.tag c.in-Whole.length
+whole c = sym c.head_at.ensures ∙ c.in-Whole.is
 
-there : (c : tie.After-known-told) → let a = c.before.before.before.before.before.args in 3 ≤ length (drop a.at a.bytes.now)
+there : (c : tie.In-Whole) → let a = c.args in 3 ≤ length (drop a.at a.bytes.now)
 there c = head_there _ _ _ (whole c)
 
-sub_check_head : tie.Need-overflow-sub-check-head
+sub_check_head : tie.Need-overflow_sub-bytes
 sub_check_head c = omega (arith, simp length-drop at (there c))
 
-sub_check_head_2 : tie.Need-overflow-sub-check-head-2
+sub_check_head_2 : tie.Need-overflow_sub-bytes-in-Whole
 sub_check_head_2 c = omega (arith, simp length-drop at (there c))
 
-returns : tie.Need-returns
+returns : tie.Need-returns-in-Short
 returns c =
-    let a = c.before.before.before.before.args in
-    sym (by_head a.file a.due a.size _ _ (sym c.before.before.head_at.ensures ∙ c.enum_told.given.1))
+    let a = c.args in
+    sym (by_head a.file a.due a.size _ _ (sym c.head_at.ensures ∙ c.in-Short.is))
 
-returns-2 : tie.Need-returns-2
+returns-2 : tie.Need-returns-in-Whole
 returns-2 c =
-    let a = c.before.before.before.before.before.before.args in
-    c.check-head.ensures
+    let a = c.args in
+    c.check_head.ensures
     ∙ sym (head_at a.file a.due a.size a.bytes.now a.at _ _ (whole c.before))
 
 pub frame_at_spec : {M : Type 1} → statement M

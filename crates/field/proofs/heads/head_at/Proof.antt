@@ -8,31 +8,31 @@ use Rattle.field.proofs.HeadLaws.{short, whole_at}
 use Rattle.field.proofs.heads.head_at.Statement.{statement}
 use Rattle.field.proofs.heads.head_at.Tie as tie
 
-returns : tie.Need-returns
+returns : tie.Need-returns-then-bytes-at
 returns c = sym (short _ (simp length-drop (omega arith)))
 
-returns-2 : tie.Need-returns-2
+returns-2 : tie.Need-returns-then-bytes-at-lt3
 returns-2 c = sym (short _ (simp length-drop (omega arith)))
 
-cast_high : tie.Need-overflow-cast-high
-cast_high c = omega (arith, c.shared-slice-known.given (c.before.before.before.args.at + 1))
+cast_high : tie.Need-overflow_cast-high
+cast_high c = omega (arith, c.shared_slice_known-1.given (c.args.at + 1))
 
-cast_low : tie.Need-overflow-cast-low
-cast_low c = omega (arith, c.shared-slice-known2.given (c.before.before.before.before.args.at + 2))
+cast_low : tie.Need-overflow_cast-low
+cast_low c = omega (arith, c.shared_slice_known-2-1.given (c.args.at + 2))
 
-mul_t5 : tie.Need-overflow-mul-t5
+mul_t5 : tie.Need-overflow_mul-result
 mul_t5 c =
-    let at = c.before.before.before.before.before.args.at in
-    omega (arith, c.shared-slice-known3.given (at + 1), c.shared-slice-known3.given (at + 2))
+    let at = c.args.at in
+    omega (arith, c.shared_slice_known-3-1.given (at + 1), c.shared_slice_known-3-1.given (at + 2))
 
-add_t7 : tie.Need-overflow-add-t7
+add_t7 : tie.Need-overflow_add-result
 add_t7 c =
-    let at = c.before.before.before.before.before.args.at in
-    omega (arith, c.shared-slice-known3.given (at + 1), c.shared-slice-known3.given (at + 2))
+    let at = c.args.at in
+    omega (arith, c.shared_slice_known-3-1.given (at + 1), c.shared_slice_known-3-1.given (at + 2))
 
-returns-3 : tie.Need-returns-3
+returns-3 : tie.Need-returns
 returns-3 c =
-    let a = c.before.before.before.before.before.args in
+    let a = c.args in
     sym (whole_at a.bytes.now a.at (omega arith))
 
 pub head_at_spec : {M : Type 1} → statement M

@@ -4,11 +4,11 @@ use borrow.Author.Rules.{rules}
 use Rattle.field.proofs.tags.known_of.Statement.{statement}
 use Rattle.field.proofs.tags.known_of.Tie as tie
 
-returns : tie.Need-returns
-returns c = rw (sym c.before.is_home.ensures ∙ c.if1.true)
+returns : tie.Need-returns-then-is_home
+returns c = rw (sym c.is_home.ensures ∙ c.if-is_home.true)
 
-returns-2 : tie.Need-returns-2
-returns-2 c = rw (sym c.before.is_home.ensures ∙ c.if1.false)
+returns-2 : tie.Need-returns
+returns-2 c = rw (sym c.is_home.ensures ∙ c.if-is_home.false)
 
 pub known_of_spec : {M : Type 1} → statement M
 known_of_spec = tie.close (tie.spec (λ c κs. search rules) returns returns-2)

@@ -10,28 +10,28 @@ use Rattle.field.proofs.TagLaws.{hit, miss, none}
 use Rattle.field.proofs.tags.length_of.Statement.{statement}
 use Rattle.field.proofs.tags.length_of.Tie as tie
 
-abbrev invariant-loop : tie.invariant-loop
+abbrev invariant-loop : tie.invariant-loop-i
 invariant-loop file tag table i₀ i = (i ≤ length field_table) × (length_of file tag ≡ length_in file (drop i field_table) tag)
 
-abbrev decreases-loop : tie.decreases-loop
+abbrev decreases-loop : tie.decreases-loop-i
 decreases-loop file tag table i₀ i = length field_table - i
 
-returns : tie.Need-returns invariant-loop decreases-loop
+returns : tie.Need-returns-then-e-tag invariant-loop decreases-loop
 returns c =
-    let l = c.before.before.before.before.before in
-    let a = l.before.args in
-    c.Known-of.ensures ∙ sym (l.loop.invariant.1 ∙ hit a.file a.tag field_table l.loop.i _ c.before.before.before.before.loop-test.true (eq-eqb _ _ c.before.if1.true))
+    let l = c in
+    let a = l.args in
+    c.known_of.ensures ∙ sym (l.loop-i.invariant.1 ∙ hit a.file a.tag field_table l.loop-i.i _ c.loop-i-test.true (eq-eqb _ _ c.if-e-tag.true))
 
-loop-again : tie.Need-loop-preserved invariant-loop decreases-loop
+loop-again : tie.Need-loop-i-preserved invariant-loop decreases-loop
 loop-again c =
-    let l = c.before.before.before.before in
-    let a = l.before.args in
-    (omega arith, l.loop.invariant.1 ∙ miss a.file a.tag field_table l.loop.i _ c.before.before.before.loop-test.true (ne_eqb _ _ c.if1.false))
+    let l = c in
+    let a = l.args in
+    (omega arith, l.loop-i.invariant.1 ∙ miss a.file a.tag field_table l.loop-i.i _ c.loop-i-test.true (ne_eqb _ _ c.if-e-tag.false))
 
-returns-2 : tie.Need-returns-2 invariant-loop decreases-loop
+returns-2 : tie.Need-returns invariant-loop decreases-loop
 returns-2 c =
-    let l = c.before in
-    sym (l.loop.invariant.1 ∙ none l.before.args.file l.before.args.tag field_table l.loop.i c.loop-test.false)
+    let l = c in
+    sym (l.loop-i.invariant.1 ∙ none l.args.file l.args.tag field_table l.loop-i.i c.loop-i-test.false)
 
 pub length_of_spec : {M : Type 1} → statement M
 length_of_spec =
@@ -41,7 +41,7 @@ length_of_spec =
     decreases-loop
     (λ c. (omega arith, refl))
     (λ c. search rules)
-    (λ c. c.loop-test.true)
+    (λ c. c.loop-i-test.true)
     (λ c κs. search rules)
     returns
     (λ c. search rules)

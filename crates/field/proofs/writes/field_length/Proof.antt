@@ -5,21 +5,21 @@ use Rattle.field.specs.Writes.{sized_length, field_length}
 use Rattle.field.proofs.writes.field_length.Statement.{statement}
 use Rattle.field.proofs.writes.field_length.Tie as tie
 
-returns : tie.Need-returns
+returns : tie.Need-returns-in-Unknown
 unfolding field_length
-returns c = sym (ap (λ b. sized_length b c.before.before.before.args.size) (sym c.before.before.length-of.ensures ∙ c.enum_told.given.1))
+returns c = sym (ap (λ b. sized_length b c.args.size) (sym c.length_of.ensures ∙ c.in-Unknown.is))
 
-returns-2 : tie.Need-returns-2
+returns-2 : tie.Need-returns-in-Fixed
 unfolding field_length
 returns-2 c =
-    let k = c.before.before.before.before in
-    c.with-head.ensures ∙ sym (ap (λ b. sized_length b k.before.args.size) (sym k.length-of.ensures ∙ c.before.before.n.given.1))
+    let k = c in
+    c.with_head.ensures ∙ sym (ap (λ b. sized_length b k.args.size) (sym k.length_of.ensures ∙ c.in-Fixed.is))
 
-returns-3 : tie.Need-returns-3
+returns-3 : tie.Need-returns-in-Depends
 unfolding field_length
 returns-3 c =
-    let k = c.before.before.before in
-    c.with-head2.ensures ∙ sym (ap (λ b. sized_length b k.before.args.size) (sym k.length-of.ensures ∙ c.before.enum-told2.given.1))
+    let k = c in
+    c.with_head-in-Depends.ensures ∙ sym (ap (λ b. sized_length b k.args.size) (sym k.length_of.ensures ∙ c.in-Depends.is))
 
 pub field_length_spec : {M : Type 1} → statement M
 field_length_spec =

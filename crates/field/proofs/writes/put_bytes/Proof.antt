@@ -10,26 +10,26 @@ use Rattle.outcome.proofs.OverLaws.{copied}
 use Rattle.field.proofs.writes.put_bytes.Statement.{statement}
 use Rattle.field.proofs.writes.put_bytes.Tie as tie
 
-abbrev invariant-loop : tie.invariant-loop
+abbrev invariant-loop : tie.invariant-loop-i
 invariant-loop bytes buf₀ i₀ buf i = (i ≤ length bytes) × (length buf ≡ length buf₀) × (buf ≡ over (take i bytes) buf₀)
 
-abbrev decreases-loop : tie.decreases-loop
+abbrev decreases-loop : tie.decreases-loop-i
 decreases-loop bytes buf₀ i₀ buf i = length bytes - i
 
-loop-again : tie.Need-loop-preserved invariant-loop decreases-loop
+loop-again : tie.Need-loop-i-preserved invariant-loop decreases-loop
 loop-again c =
-    let l = c.before.before in
-    let a = l.before.args in (
+    let l = c in
+    let a = l.args in (
       search rules,
-      simp length-set l.loop.invariant.1,
-      ap (λ x. set x l.loop.i (get_or a.bytes.now l.loop.i 0)) l.loop.invariant.2 ∙ copied a.bytes.now a.buf.now l.loop.i (search rules) (omega arith),
+      simp length-set l.loop-i.invariant.1,
+      ap (λ x. set x l.loop-i.i (get_or a.bytes.now l.loop-i.i 0)) l.loop-i.invariant.2 ∙ copied a.bytes.now a.buf.now l.loop-i.i (search rules) (omega arith),
     )
 
 returns : tie.Need-returns invariant-loop decreases-loop
 returns c =
-    let l = c.before in
-    let a = l.before.args in
-    l.loop.invariant.2 ∙ ap (λ x. over x a.buf.now) (take_all l.loop.i a.bytes.now (omega arith))
+    let l = c in
+    let a = l.args in
+    l.loop-i.invariant.2 ∙ ap (λ x. over x a.buf.now) (take_all l.loop-i.i a.bytes.now (omega arith))
 
 pub put_bytes_spec : {M : Type 1} → statement M
 put_bytes_spec =

@@ -9,25 +9,25 @@ use Rattle.field.proofs.WriteLaws.{written, too_long, no_room}
 use Rattle.field.proofs.writes.put_field.Statement.{statement}
 use Rattle.field.proofs.writes.put_field.Tie as tie
 
-returns : tie.Need-returns
+returns : tie.Need-returns-then-n-gt-LONGEST_BODY
 returns c =
-    let a = c.before.before.before.args in
-    let kept = too_long a.tag a.body.now a.buf.now c.if1.true in
+    let a = c.args in
+    let kept = too_long a.tag a.body.now a.buf.now c.if-n-gt-LONGEST_BODY.true in
     (sym kept.0, sym kept.1)
 
-returns-2 : tie.Need-returns-2
+returns-2 : tie.Need-returns-then-buf-n
 returns-2 c =
-    let a = c.before.before.before.before.args in
-    let kept = no_room a.tag a.body.now a.buf.now c.before.if1.false c.if2.true in
+    let a = c.args in
+    let kept = no_room a.tag a.body.now a.buf.now c.if-n-gt-LONGEST_BODY.false c.if-buf-n.true in
     (sym kept.0, sym kept.1)
 
-returns-3 : tie.Need-returns-3
+returns-3 : tie.Need-returns
 returns-3 c =
-    let h = c.before.before.before.before.before.before in
-    let a = h.before.before.before.before.before.before.args in
+    let h = c in
+    let a = h.args in
     let n = length a.body.now in
-    let whole = written a.tag a.body.now a.buf.now h.before.before.before.if1.false h.before.before.if2.false in
-    let joined = behind (a.tag ∷ n / 256 ∷ n % 256 ∷ []) a.body.now a.buf.now h.put-head.new.1.1.0 c.before.before.put-bytes.new.1.0 3 refl h.put-head.ensures c.before.before.put-bytes.ensures in
+    let whole = written a.tag a.body.now a.buf.now h.if-n-gt-LONGEST_BODY.false h.if-buf-n.false in
+    let joined = behind (a.tag ∷ n / 256 ∷ n % 256 ∷ []) a.body.now a.buf.now h.put_head.new.buf c.put_bytes.new.buf 3 refl h.put_head.ensures c.put_bytes.ensures in
     (sym whole.0, joined ∙ sym whole.1)
 
 pub put_field_spec : {M : Type 1} → statement M

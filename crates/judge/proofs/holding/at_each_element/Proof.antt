@@ -13,36 +13,36 @@ use Rattle.judge.proofs.ElementLaws.{any_size}
 use Rattle.judge.proofs.holding.at_each_element.Statement.{statement}
 use Rattle.judge.proofs.holding.at_each_element.Tie as tie
 
-abbrev invariant-loop : tie.invariant-loop
+abbrev invariant-loop : tie.invariant-loop-d
 invariant-loop n elements masks s d₀ d = (d ≤ n) × (everywhere d (at_element (assigned_by n elements masks) s) ≡ true)
 
-abbrev decreases-loop : tie.decreases-loop
+abbrev decreases-loop : tie.decreases-loop-d
 decreases-loop n elements masks s d₀ d = n - d
 
 -- the test at a turn, in the assignment of n elements
-tested : (c : tie.After-at-element invariant-loop decreases-loop) →
-    let l = c.before.before in
-    let a = l.before.before.before.args in
-    at_element (assigned_by a.n a.elements.now a.masks.now) a.s l.loop.d ≡ c.at-element.result
+tested : (c : tie.After-at_element invariant-loop decreases-loop) →
+    let l = c in
+    let a = l.args in
+    at_element (assigned_by a.n a.elements.now a.masks.now) a.s l.loop-d.d ≡ c.at_element.result
 tested c =
-    let l = c.before.before in
-    let a = l.before.before.before.args in
-    any_size a.n 0 a.elements.now a.masks.now a.s l.loop.d ∙ sym c.at-element.ensures
+    let l = c in
+    let a = l.args in
+    any_size a.n 0 a.elements.now a.masks.now a.s l.loop-d.d ∙ sym c.at_element.ensures
 
-returns : tie.Need-returns invariant-loop decreases-loop
+returns : tie.Need-returns-then-not-at_element invariant-loop decreases-loop
 returns c =
-    let l = c.before.before.before in
-    sym (walk_fails _ l.before.before.before.args.n l.loop.d c.before.before.loop-test.true (tested c.before ∙ not-true _ c.if1.true))
+    let l = c in
+    sym (walk_fails _ l.args.n l.loop-d.d c.loop-d-test.true (tested c.before ∙ not-true _ c.if-not-at_element.true))
 
-loop-again : tie.Need-loop-preserved invariant-loop decreases-loop
+loop-again : tie.Need-loop-d-preserved invariant-loop decreases-loop
 loop-again c =
-    let l = c.before.before.before in
-    (omega arith, walk_more _ l.loop.d l.loop.invariant.1 (tested c.before ∙ not-false _ c.if1.false))
+    let l = c in
+    (omega arith, walk_more _ l.loop-d.d l.loop-d.invariant.1 (tested c.before ∙ not-false _ c.if-not-at_element.false))
 
-returns-2 : tie.Need-returns-2 invariant-loop decreases-loop
+returns-2 : tie.Need-returns invariant-loop decreases-loop
 returns-2 c =
-    let l = c.before in
-    sym (walk_ends _ l.before.before.before.args.n l.loop.d l.loop.invariant.0 c.loop-test.false l.loop.invariant.1)
+    let l = c in
+    sym (walk_ends _ l.args.n l.loop-d.d l.loop-d.invariant.0 c.loop-d-test.false l.loop-d.invariant.1)
 
 pub at_each_element_spec : {M : Type 1} → statement M
 at_each_element_spec =

@@ -3,26 +3,26 @@ use borrow.Author.Rules.{rules}
 use Rattle.judge.proofs.holding.at_element.Statement.{statement}
 use Rattle.judge.proofs.holding.at_element.Tie as tie
 
-returns : tie.Need-returns
-returns c = rw (c.before.before.before.s.given.1, c.before.has.ensures, c.has2.ensures, c.before.before.before.before.before.mask.ensures)
+returns : tie.Need-returns-in-SetsEqual
+returns c = rw (c.in-SetsEqual.is, c.has.ensures, c.has-in-SetsEqual.ensures, c.mask-sets.ensures)
 
-returns-2 : tie.Need-returns-2
-returns-2 c = rw (c.before.before.before.s2.given.1, c.before.has3.ensures, c.has4.ensures, c.before.before.before.before.before.mask.ensures)
+returns-2 : tie.Need-returns-in-SetsDiffer
+returns-2 c = rw (c.in-SetsDiffer.is, c.has-in-SetsDiffer.ensures, c.has-in-SetsDiffer-2.ensures, c.mask-sets.ensures)
 
-returns-3 : tie.Need-returns-3
-returns-3 c = rw (c.before.before.s3.given.1, c.has5.ensures, c.before.before.before.before.mask.ensures)
+returns-3 : tie.Need-returns-in-Empty
+returns-3 c = rw (c.in-Empty.is, c.has-in-Empty.ensures, c.mask-sets.ensures)
 
-returns-4 : tie.Need-returns-4
-returns-4 c = rw (c.before.before.before.s4.given.1, c.before.has6.ensures, c.element.ensures, c.before.before.before.before.before.mask.ensures)
+returns-4 : tie.Need-returns-in-Single
+returns-4 c = rw (c.in-Single.is, c.has-in-Single.ensures, c.element.ensures, c.mask-sets.ensures)
 
-returns-5 : tie.Need-returns-5
-returns-5 c = rw (c.before.before.before.before.s5.given.1, c.before.before.has7.ensures, c.before.has8.ensures, c.has9.ensures, c.before.before.before.before.before.before.mask.ensures)
+returns-5 : tie.Need-returns-in-Union
+returns-5 c = rw (c.in-Union.is, c.has-in-Union.ensures, c.has-in-Union-2.ensures, c.has-in-Union-3.ensures, c.mask-sets.ensures)
 
-returns-6 : tie.Need-returns-6
-returns-6 c = rw (c.before.before.before.before.s6.given.1, c.before.before.has10.ensures, c.before.has11.ensures, c.has12.ensures, c.before.before.before.before.before.before.mask.ensures)
+returns-6 : tie.Need-returns-in-Intersection
+returns-6 c = rw (c.in-Intersection.is, c.has-in-Intersection.ensures, c.has-in-Intersection-2.ensures, c.has-in-Intersection-3.ensures, c.mask-sets.ensures)
 
-returns-7 : tie.Need-returns-7
-returns-7 c = rw (c.before.before.before.before.s7.given.1, c.before.before.has13.ensures, c.before.has14.ensures, c.has15.ensures, c.before.before.before.before.before.before.mask.ensures)
+returns-7 : tie.Need-returns-in-Difference
+returns-7 c = rw (c.in-Difference.is, c.has-in-Difference.ensures, c.has-in-Difference-2.ensures, c.has-in-Difference-3.ensures, c.mask-sets.ensures)
 
 pub at_element_spec : {M : Type 1} → statement M
 at_element_spec =

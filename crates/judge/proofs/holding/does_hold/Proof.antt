@@ -5,38 +5,38 @@ use borrow.Author.Rules.{rules}
 use Rattle.judge.proofs.holding.does_hold.Statement.{statement}
 use Rattle.judge.proofs.holding.does_hold.Tie as tie
 
-returns : tie.Need-returns
-returns c = rw (c.before.before.before.s.given.1, c.before.element.ensures, c.element2.ensures)
+returns : tie.Need-returns-in-ElementsEqual
+returns c = rw (c.in-ElementsEqual.is, c.element.ensures, c.element-in-ElementsEqual.ensures)
 
-returns-2 : tie.Need-returns-2
-returns-2 c = rw (c.before.before.before.s2.given.1, c.before.element3.ensures, c.element4.ensures)
+returns-2 : tie.Need-returns-in-ElementsDiffer
+returns-2 c = rw (c.in-ElementsDiffer.is, c.element-in-ElementsDiffer.ensures, c.element-in-ElementsDiffer-2.ensures)
 
-returns-3 : tie.Need-returns-3
-returns-3 c = rw (c.before.before.before.before.s3.given.1, c.has.ensures, c.before.mask.ensures, c.before.before.element5.ensures)
+returns-3 : tie.Need-returns-in-In
+returns-3 c = rw (c.in-In.is, c.has.ensures, c.mask.ensures, c.element-in-In.ensures)
 
-returns-4 : tie.Need-returns-4
-returns-4 c = rw (c.before.before.before.before.s4.given.1, c.has2.ensures, c.before.mask2.ensures, c.before.before.element6.ensures)
+returns-4 : tie.Need-returns-in-NotIn
+returns-4 c = rw (c.in-NotIn.is, c.has-in-NotIn.ensures, c.mask-in-NotIn.ensures, c.element-in-NotIn.ensures)
 
-returns-5 : tie.Need-returns-5
-returns-5 c = rw c.before.enum_told.given.1 (ap not (rw c.before.enum_told.given.1 at c.at-each-element.ensures))
+returns-5 : tie.Need-returns-in-SetsDiffer
+returns-5 c = rw c.in-SetsDiffer.is (ap not (rw c.in-SetsDiffer.is at c.at_each_element.ensures))
 
-returns-6 : tie.Need-returns-6
-returns-6 c = rw c.before.enum-told2.given.1 (rw c.before.enum-told2.given.1 at c.at-each-element2.ensures)
+returns-6 : tie.Need-returns-in-SetsEqual
+returns-6 c = rw c.in-SetsEqual.is (rw c.in-SetsEqual.is at c.at_each_element-in-SetsEqual.ensures)
 
-returns-7 : tie.Need-returns-7
-returns-7 c = rw c.before.enum-told3.given.1 (rw c.before.enum-told3.given.1 at c.at-each-element3.ensures)
+returns-7 : tie.Need-returns-in-Empty
+returns-7 c = rw c.in-Empty.is (rw c.in-Empty.is at c.at_each_element-in-Empty.ensures)
 
-returns-8 : tie.Need-returns-8
-returns-8 c = rw c.before.enum-told4.given.1 (rw c.before.enum-told4.given.1 at c.at-each-element4.ensures)
+returns-8 : tie.Need-returns-in-Single
+returns-8 c = rw c.in-Single.is (rw c.in-Single.is at c.at_each_element-in-Single.ensures)
 
-returns-9 : tie.Need-returns-9
-returns-9 c = rw c.before.enum-told5.given.1 (rw c.before.enum-told5.given.1 at c.at-each-element5.ensures)
+returns-9 : tie.Need-returns-in-Union
+returns-9 c = rw c.in-Union.is (rw c.in-Union.is at c.at_each_element-in-Union.ensures)
 
-returns-10 : tie.Need-returns-10
-returns-10 c = rw c.before.enum-told6.given.1 (rw c.before.enum-told6.given.1 at c.at-each-element6.ensures)
+returns-10 : tie.Need-returns-in-Intersection
+returns-10 c = rw c.in-Intersection.is (rw c.in-Intersection.is at c.at_each_element-in-Intersection.ensures)
 
-returns-11 : tie.Need-returns-11
-returns-11 c = rw c.before.enum-told7.given.1 (rw c.before.enum-told7.given.1 at c.at-each-element7.ensures)
+returns-11 : tie.Need-returns-in-Difference
+returns-11 c = rw c.in-Difference.is (rw c.in-Difference.is at c.at_each_element-in-Difference.ensures)
 
 pub does_hold_spec : {M : Type 1} → statement M
 does_hold_spec =

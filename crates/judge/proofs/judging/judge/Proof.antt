@@ -5,13 +5,13 @@ use Rattle.judge.specs.Judgements.{judged}
 use Rattle.judge.proofs.judging.judge.Statement.{statement}
 use Rattle.judge.proofs.judging.judge.Tie as tie
 
-returns : tie.Need-returns
+returns : tie.Need-returns-in-Refused
 unfolding judged
-returns c = rw (sym c.before.before.before.check.ensures ∙ c.before.table.given.1)
+returns c = rw (sym c.check-table.ensures ∙ c.in-Refused.is)
 
-returns-2 : tie.Need-returns-2
+returns-2 : tie.Need-returns-in-Accepted
 unfolding judged
-returns-2 c = rw (sym c.before.before.before.check.ensures ∙ c.before.enum_told.given.1) c.judge-model.ensures
+returns-2 c = rw (sym c.check-table.ensures ∙ c.in-Accepted.is) c.judge_model.ensures
 
 pub judge_spec : {M : Type 1} → statement M
 judge_spec = tie.close (tie.spec (λ c κs. search rules) (λ c. search rules) (λ c. search rules) (λ c κs. search rules) returns returns-2)

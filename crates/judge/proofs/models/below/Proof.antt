@@ -6,11 +6,11 @@ use Rattle.judge.proofs.MaskLaws.{mask_below, below_shifts}
 use Rattle.judge.proofs.models.below.Statement.{statement}
 use Rattle.judge.proofs.models.below.Tie as tie
 
-returns : tie.Need-returns
-returns c = below_shifts c.before.args.mask c.before.args.sets
+returns : tie.Need-returns-then-s-lt32
+returns c = below_shifts c.args.mask c.args.sets
 
-returns-2 : tie.Need-returns-2
-returns-2 c = sym (lt-ltb _ _ (mask_below c.before.args.mask c.before.args.sets c.before.ranges.mask.fits c.if1.false))
+returns-2 : tie.Need-returns
+returns-2 c = sym (lt-ltb _ _ (mask_below c.args.mask c.args.sets c.ranges.mask.fits c.if-s-lt32.false))
 
 pub below_spec : {M : Type 1} → statement M
 below_spec = tie.close (tie.spec (λ c. search rules) returns returns-2)

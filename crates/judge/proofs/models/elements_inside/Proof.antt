@@ -13,28 +13,28 @@ use Rattle.judge.specs.Models.{elements_inside}
 use Rattle.judge.proofs.models.elements_inside.Statement.{statement}
 use Rattle.judge.proofs.models.elements_inside.Tie as tie
 
-abbrev invariant-loop : tie.invariant-loop
+abbrev invariant-loop : tie.invariant-loop-a
 invariant-loop n elements names a₀ a = (a ≤ names) × (everywhere a (λ b. ltb (get_or elements b 0) n) ≡ true)
 
-abbrev decreases-loop : tie.decreases-loop
+abbrev decreases-loop : tie.decreases-loop-a
 decreases-loop n elements names a₀ a = names - a
 
-returns : tie.Need-returns invariant-loop decreases-loop
+returns : tie.Need-returns-then-n-d invariant-loop decreases-loop
 unfolding elements_inside
 returns c =
-    let l = c.before.before.before in
-    sym (walk_fails _ l.before.before.args.names l.loop.a c.before.before.loop-test.true (le-ltb _ _ (rw c.before.element.ensures at c.if1.true)))
+    let l = c in
+    sym (walk_fails _ l.args.names l.loop-a.a c.loop-a-test.true (le-ltb _ _ (rw c.element-d.ensures at c.if-n-d.true)))
 
-loop-again : tie.Need-loop-preserved invariant-loop decreases-loop
+loop-again : tie.Need-loop-a-preserved invariant-loop decreases-loop
 loop-again c =
-    let l = c.before.before.before in
-    (omega arith, walk_more _ l.loop.a l.loop.invariant.1 (lt-ltb _ _ (rw c.before.element.ensures at c.if1.false)))
+    let l = c in
+    (omega arith, walk_more _ l.loop-a.a l.loop-a.invariant.1 (lt-ltb _ _ (rw c.element-d.ensures at c.if-n-d.false)))
 
-returns-2 : tie.Need-returns-2 invariant-loop decreases-loop
+returns-2 : tie.Need-returns invariant-loop decreases-loop
 unfolding elements_inside
 returns-2 c =
-    let l = c.before in
-    sym (walk_ends _ l.before.before.args.names l.loop.a l.loop.invariant.0 c.loop-test.false l.loop.invariant.1)
+    let l = c in
+    sym (walk_ends _ l.args.names l.loop-a.a l.loop-a.invariant.0 c.loop-a-test.false l.loop-a.invariant.1)
 
 pub elements_inside_spec : {M : Type 1} → statement M
 elements_inside_spec =

@@ -7,22 +7,22 @@ use Rattle.judge.specs.Models.{is_model}
 use Rattle.judge.proofs.models.is_model.Statement.{statement}
 use Rattle.judge.proofs.models.is_model.Tie as tie
 
-returns : tie.Need-returns
+returns : tie.Need-returns-then-n-gt-MAX_TERMS
 unfolding is_model
-returns c = rw (lt-leb _ max_terms c.if1.true)
+returns c = rw (lt-leb _ max_terms c.if-n-gt-MAX_TERMS.true)
 
-returns-2 : tie.Need-returns-2
+returns-2 : tie.Need-returns-then-not-elements_inside
 unfolding is_model
 returns-2 c =
-    let outside = not-true c.before.elements-inside.result c.if2.true in
-    rw (le-leb _ max_terms c.before.before.before.before.before.if1.false, sym c.before.elements-inside.ensures ∙ outside)
+    let outside = not-true c.elements_inside.result c.if-not-elements_inside.true in
+    rw (le-leb _ max_terms c.if-n-gt-MAX_TERMS.false, sym c.elements_inside.ensures ∙ outside)
 
-returns-3 : tie.Need-returns-3
+returns-3 : tie.Need-returns
 unfolding is_model
 returns-3 c =
-    let t = c.before.before.before.before.before in
-    let inside = not-false t.elements-inside.result c.before.before.before.before.if2.false in
-    rw (le-leb _ max_terms t.before.before.before.before.if1.false, sym t.elements-inside.ensures ∙ inside) c.masks-inside.ensures
+    let t = c in
+    let inside = not-false t.elements_inside.result c.if-not-elements_inside.false in
+    rw (le-leb _ max_terms t.if-n-gt-MAX_TERMS.false, sym t.elements_inside.ensures ∙ inside) c.masks_inside.ensures
 
 pub is_model_spec : {M : Type 1} → statement M
 is_model_spec = tie.close (tie.spec returns (λ c κs. search rules) returns-2 (λ c κs. search rules) returns-3)

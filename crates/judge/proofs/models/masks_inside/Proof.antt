@@ -13,33 +13,33 @@ use Rattle.judge.specs.Models.{masks_inside}
 use Rattle.judge.proofs.models.masks_inside.Statement.{statement}
 use Rattle.judge.proofs.models.masks_inside.Tie as tie
 
-abbrev invariant-loop : tie.invariant-loop
+abbrev invariant-loop : tie.invariant-loop-d
 invariant-loop n masks sets d₀ d = (d ≤ n) × (everywhere d (λ e. ltb (get_or masks e 0) (2 ^ sets)) ≡ true)
 
-abbrev decreases-loop : tie.decreases-loop
+abbrev decreases-loop : tie.decreases-loop-d
 decreases-loop n masks sets d₀ d = n - d
 
 -- the test at a turn is that of the element's mask
-tested : (c : tie.After-below invariant-loop decreases-loop) → let l = c.before.before.before in
-    ltb (get_or l.before.before.args.masks.now l.loop.d 0) (2 ^ l.before.before.args.sets) ≡ c.below.result
-tested c = sym (c.below.ensures ∙ ap (λ k. ltb k (2 ^ c.before.before.before.before.before.args.sets)) c.before.mask.ensures)
+tested : (c : tie.After-below invariant-loop decreases-loop) → let l = c in
+    ltb (get_or l.args.masks.now l.loop-d.d 0) (2 ^ l.args.sets) ≡ c.below.result
+tested c = sym (c.below.ensures ∙ ap (λ k. ltb k (2 ^ c.args.sets)) c.mask.ensures)
 
-returns : tie.Need-returns invariant-loop decreases-loop
+returns : tie.Need-returns-then-not-below invariant-loop decreases-loop
 unfolding masks_inside
 returns c =
-    let l = c.before.before.before.before in
-    sym (walk_fails _ l.before.before.args.n l.loop.d c.before.before.before.loop-test.true (tested c.before ∙ not-true _ c.if1.true))
+    let l = c in
+    sym (walk_fails _ l.args.n l.loop-d.d c.loop-d-test.true (tested c.before ∙ not-true _ c.if-not-below.true))
 
-loop-again : tie.Need-loop-preserved invariant-loop decreases-loop
+loop-again : tie.Need-loop-d-preserved invariant-loop decreases-loop
 loop-again c =
-    let l = c.before.before.before.before in
-    (omega arith, walk_more _ l.loop.d l.loop.invariant.1 (tested c.before ∙ not-false _ c.if1.false))
+    let l = c in
+    (omega arith, walk_more _ l.loop-d.d l.loop-d.invariant.1 (tested c.before ∙ not-false _ c.if-not-below.false))
 
-returns-2 : tie.Need-returns-2 invariant-loop decreases-loop
+returns-2 : tie.Need-returns invariant-loop decreases-loop
 unfolding masks_inside
 returns-2 c =
-    let l = c.before in
-    sym (walk_ends _ l.before.before.args.n l.loop.d l.loop.invariant.0 c.loop-test.false l.loop.invariant.1)
+    let l = c in
+    sym (walk_ends _ l.args.n l.loop-d.d l.loop-d.invariant.0 c.loop-d-test.false l.loop-d.invariant.1)
 
 pub masks_inside_spec : {M : Type 1} → statement M
 masks_inside_spec =

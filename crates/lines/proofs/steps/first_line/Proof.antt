@@ -7,18 +7,18 @@ use Rattle.lines.proofs.steps.first_line.Tie as tie
 
 returns : tie.Need-returns
 returns c =
-    let a = c.before.before.before.before.before.args in
-    c.at_stage.ensures ∙ sym (first_satisfiable a.most a.r a.line.now (sym c.before.before.same_bytes.ensures ∙ c.before.if1.true))
+    let a = c.args in
+    c.at_stage.ensures ∙ sym (first_satisfiable a.most a.r a.line.now (sym c.same_bytes.ensures ∙ c.if-same_bytes.true))
 
-returns-2 : tie.Need-returns-2
+returns-2 : tie.Need-returns-then-same_bytes-2
 returns-2 c =
-    let a = c.before.before.before.before.before.before.before.before.args in
-    c.at-stage2.ensures ∙ sym (first_unsatisfiable a.most a.r a.line.now (sym c.before.before.before.before.before.same_bytes.ensures ∙ c.before.before.before.before.if1.false) (sym c.before.before.same-bytes2.ensures ∙ c.before.if2.true))
+    let a = c.args in
+    c.at_stage-then-same_bytes-2.ensures ∙ sym (first_unsatisfiable a.most a.r a.line.now (sym c.same_bytes.ensures ∙ c.if-same_bytes.false) (sym c.same_bytes-2.ensures ∙ c.if-same_bytes-2.true))
 
-returns-3 : tie.Need-returns-3
+returns-3 : tie.Need-returns
 returns-3 c =
-    let a = c.before.before.before.before.before.before.before.before.args in
-    c.at-stage3.ensures ∙ sym (first_other a.most a.r a.line.now (sym c.before.before.before.before.before.same_bytes.ensures ∙ c.before.before.before.before.if1.false) (sym c.before.before.same-bytes2.ensures ∙ c.before.if2.false))
+    let a = c.args in
+    c.at_stage-2.ensures ∙ sym (first_other a.most a.r a.line.now (sym c.same_bytes.ensures ∙ c.if-same_bytes.false) (sym c.same_bytes-2.ensures ∙ c.if-same_bytes-2.false))
 
 pub first_line_spec : {M : Type 1} → statement M
 first_line_spec =

@@ -5,11 +5,11 @@ use Rattle.lines.proofs.StepLaws.{no_comment, by_first_byte}
 use Rattle.lines.proofs.steps.is_comment.Statement.{statement}
 use Rattle.lines.proofs.steps.is_comment.Tie as tie
 
-returns : tie.Need-returns
-returns c = sym (no_comment c.before.args.line.now c.if1.true)
+returns : tie.Need-returns-then-line-eq0
+returns c = sym (no_comment c.args.line.now c.if-line-eq0.true)
 
-returns-2 : tie.Need-returns-2
-returns-2 c = sym (by_first_byte c.before.before.args.line.now c.before.if1.false)
+returns-2 : tie.Need-returns
+returns-2 c = sym (by_first_byte c.args.line.now c.if-line-eq0.false)
 
 pub is_comment_spec : {M : Type 1} → statement M
 is_comment_spec = tie.close (tie.spec returns (λ c. search rules) returns-2)

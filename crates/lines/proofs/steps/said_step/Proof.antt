@@ -5,30 +5,30 @@ use Rattle.lines.proofs.StepLaws.{line_at_start, line_at_values, line_at_valued,
 use Rattle.lines.proofs.steps.said_step.Statement.{statement}
 use Rattle.lines.proofs.steps.said_step.Tie as tie
 
-returns : tie.Need-returns
+returns : tie.Need-returns-in-Start
 returns c =
-    let a = c.before.before.before.before.args in
-    c.first-line.ensures ∙ sym (line_at_start a.most a.r a.line.now c.before.enum_told.given.1)
+    let a = c.args in
+    c.first_line.ensures ∙ sym (line_at_start a.most a.r a.line.now c.in-Start.is)
 
-returns-2 : tie.Need-returns-2
+returns-2 : tie.Need-returns-in-Values
 returns-2 c =
-    let a = c.before.before.before.before.args in
-    c.Value-line.ensures ∙ sym (line_at_values a.most a.r a.line.now c.before.enum-told2.given.1)
+    let a = c.args in
+    c.value_line.ensures ∙ sym (line_at_values a.most a.r a.line.now c.in-Values.is)
 
-returns-3 : tie.Need-returns-3
+returns-3 : tie.Need-returns-in-Valued
 returns-3 c =
-    let a = c.before.before.before.before.args in
-    c.at_stage.ensures ∙ sym (line_at_valued a.most a.r a.line.now c.before.enum-told3.given.1)
+    let a = c.args in
+    c.at_stage.ensures ∙ sym (line_at_valued a.most a.r a.line.now c.in-Valued.is)
 
-returns-4 : tie.Need-returns-4
+returns-4 : tie.Need-returns-in-Refuted
 returns-4 c =
-    let a = c.before.before.before.before.args in
-    c.at-stage2.ensures ∙ sym (line_at_refuted a.most a.r a.line.now c.before.enum-told4.given.1)
+    let a = c.args in
+    c.at_stage-in-Refuted.ensures ∙ sym (line_at_refuted a.most a.r a.line.now c.in-Refuted.is)
 
-returns-5 : tie.Need-returns-5
+returns-5 : tie.Need-returns-in-Fault
 returns-5 c =
-    let a = c.before.before.before.before.args in
-    c.at-stage3.ensures ∙ sym (line_at_fault a.most a.r a.line.now c.before.enum-told5.given.1)
+    let a = c.args in
+    c.at_stage-in-Fault.ensures ∙ sym (line_at_fault a.most a.r a.line.now c.in-Fault.is)
 
 pub said_step_spec : {M : Type 1} → statement M
 said_step_spec =

@@ -8,32 +8,32 @@ use Rattle.lines.proofs.SameBytesLaws.{other_length, same_next, same_not, same_e
 use Rattle.lines.proofs.steps.same_bytes.Statement.{statement}
 use Rattle.lines.proofs.steps.same_bytes.Tie as tie
 
-abbrev invariant-loop : tie.invariant-loop
+abbrev invariant-loop : tie.invariant-loop-i
 invariant-loop bytes text i₀ i = (i ≤ length bytes) × (same_bytes bytes text ≡ same_bytes (drop i bytes) (drop i text))
 
-abbrev decreases-loop : tie.decreases-loop
+abbrev decreases-loop : tie.decreases-loop-i
 decreases-loop bytes text i₀ i = length bytes - i
 
-returns : tie.Need-returns invariant-loop decreases-loop
-returns c = sym (other_length c.before.args.bytes.now c.before.args.text.now c.if1.true)
+returns : tie.Need-returns-then-bytes-text invariant-loop decreases-loop
+returns c = sym (other_length c.args.bytes.now c.args.text.now c.if-bytes-text.true)
 
-returns-2 : tie.Need-returns-2 invariant-loop decreases-loop
+returns-2 : tie.Need-returns-then-bytes-i invariant-loop decreases-loop
 returns-2 c =
-    let a = c.before.before.before.before.before.before.args in
-    let l = c.before.before.before.before.loop in
-    sym (l.invariant.1 ∙ same_not a.bytes.now a.text.now l.i c.before.before.before.before.before.if1.false c.before.before.before.loop-test.true c.if2.true)
+    let a = c.args in
+    let l = c.loop-i in
+    sym (l.invariant.1 ∙ same_not a.bytes.now a.text.now l.i c.if-bytes-text.false c.loop-i-test.true c.if-bytes-i.true)
 
-loop-again : tie.Need-loop-preserved invariant-loop decreases-loop
+loop-again : tie.Need-loop-i-preserved invariant-loop decreases-loop
 loop-again c =
-    let a = c.before.before.before.before.before.before.args in
-    let l = c.before.before.before.before.loop in
-    (omega (arith, c.before.before.before.loop-test.true), l.invariant.1 ∙ same_next a.bytes.now a.text.now l.i c.before.before.before.before.before.if1.false c.before.before.before.loop-test.true c.if2.false)
+    let a = c.args in
+    let l = c.loop-i in
+    (omega (arith, c.loop-i-test.true), l.invariant.1 ∙ same_next a.bytes.now a.text.now l.i c.if-bytes-text.false c.loop-i-test.true c.if-bytes-i.false)
 
-returns-3 : tie.Need-returns-3 invariant-loop decreases-loop
+returns-3 : tie.Need-returns invariant-loop decreases-loop
 returns-3 c =
-    let a = c.before.before.before.args in
-    let l = c.before.loop in
-    sym (l.invariant.1 ∙ same_end a.bytes.now a.text.now l.i c.before.before.if1.false c.loop-test.false)
+    let a = c.args in
+    let l = c.loop-i in
+    sym (l.invariant.1 ∙ same_end a.bytes.now a.text.now l.i c.if-bytes-text.false c.loop-i-test.false)
 
 pub same_bytes_spec : {M : Type 1} → statement M
 same_bytes_spec =

@@ -11,28 +11,28 @@ use Rattle.lines.proofs.steps.value_line.Statement.{statement}
 use Rattle.lines.proofs.steps.value_line.Tie as tie
 
 -- a space stands behind the first word
-behind : (c : tie.Else1) → c.before.piece-length.result < length c.before.before.before.args.line.now
+behind : (c : tie.Else-n-line) → c.piece_length-n.result < length c.args.line.now
 behind c =
-    let p = c.before in
-    omega (arith, p.piece-length.ensures, until_within space p.before.before.args.line.now, c.if1.false)
+    let p = c in
+    omega (arith, p.piece_length-n.ensures, until_within space p.args.line.now, c.if-n-line.false)
 
 returns : tie.Need-returns
 returns c =
-    let a = c.before.before.before.before.args in
-    c.at_stage.ensures ∙ sym (line_of_one a.most a.r a.line.now c.before.before.piece-length.result c.before.before.piece-length.ensures c.before.if1.true)
+    let a = c.args in
+    c.at_stage.ensures ∙ sym (line_of_one a.most a.r a.line.now c.piece_length-n.result c.piece_length-n.ensures c.if-n-line.true)
 
-slice_aggregate_same_bytes : tie.Need-slice-aggregate-same-bytes
-slice_aggregate_same_bytes c = omega (arith, length-take c.before.before.piece-length.result c.before.before.before.before.args.line.now, behind c.before)
+slice_aggregate_same_bytes : tie.Need-slice_bounds-same_bytes-end
+slice_aggregate_same_bytes c = omega (arith, length-take c.piece_length-n.result c.args.line.now, behind c)
 
-returns-2 : tie.Need-returns-2
+returns-2 : tie.Need-returns-then-same_bytes
 returns-2 c =
-    let a = c.before.before.before.before.before.before.before.before.before.args in
-    c.word-steps.ensures ∙ sym (line_of_words a.most a.r a.line.now c.before.before.before.before.before.before.before.piece-length.result c.before.before.before.before.before.before.before.piece-length.ensures (behind c.before.before.before.before.before.before) (sym c.before.before.before.same_bytes.ensures ∙ c.before.before.if2.true))
+    let a = c.args in
+    c.word_steps.ensures ∙ sym (line_of_words a.most a.r a.line.now c.piece_length-n.result c.piece_length-n.ensures (behind c.before.before.before.before.before.before) (sym c.same_bytes.ensures ∙ c.if-same_bytes.true))
 
-returns-3 : tie.Need-returns-3
+returns-3 : tie.Need-returns
 returns-3 c =
-    let a = c.before.before.before.before.before.before.before.before.args in
-    c.at-stage2.ensures ∙ sym (line_of_others a.most a.r a.line.now c.before.before.before.before.before.before.piece-length.result c.before.before.before.before.before.before.piece-length.ensures (behind c.before.before.before.before.before) (sym c.before.before.same_bytes.ensures ∙ c.before.if2.false))
+    let a = c.args in
+    c.at_stage-2.ensures ∙ sym (line_of_others a.most a.r a.line.now c.piece_length-n.result c.piece_length-n.ensures (behind c.before.before.before.before.before) (sym c.same_bytes.ensures ∙ c.if-same_bytes.false))
 
 pub value_line_spec : {M : Type 1} → statement M
 value_line_spec =

@@ -12,10 +12,10 @@ use Rattle.lines.specs.Values.{value_of, is_said, all_said}
 use Rattle.lines.proofs.values.all_said.Statement.{statement}
 use Rattle.lines.proofs.values.all_said.Tie as tie
 
-abbrev invariant-loop : tie.invariant-loop
+abbrev invariant-loop : tie.invariant-loop-v
 invariant-loop r most end v₀ v = (v ≤ most) × (all_said v r.values ≡ true)
 
-abbrev decreases-loop : tie.decreases-loop
+abbrev decreases-loop : tie.decreases-loop-v
 decreases-loop r most end v₀ v = most - v
 
 -- what is asked of each variable, counted from 0
@@ -25,23 +25,23 @@ here r i = is_said (value_of r.values (suc i))
 at_next : (r : Reading) (v : ℕ) → here r v ≡ is_said (value_of r.values (v + 1))
 at_next r v = ap (λ k. is_said (value_of r.values k)) (sym (add-one v))
 
-returns : tie.Need-returns invariant-loop decreases-loop
+returns : tie.Need-returns-then-not-is_said invariant-loop decreases-loop
 returns c =
-    let a = c.before.before.before.before.args in
-    let l = c.before.before.before.loop in
-    sym (walk_fails (here a.r) a.most l.v c.before.before.loop-test.true (at_next a.r l.v ∙ sym c.before.is_said.ensures ∙ not-true _ c.if1.true))
+    let a = c.args in
+    let l = c.loop-v in
+    sym (walk_fails (here a.r) a.most l.v c.loop-v-test.true (at_next a.r l.v ∙ sym c.is_said.ensures ∙ not-true _ c.if-not-is_said.true))
 
-loop-again : tie.Need-loop-preserved invariant-loop decreases-loop
+loop-again : tie.Need-loop-v-preserved invariant-loop decreases-loop
 loop-again c =
-    let a = c.before.before.before.before.args in
-    let l = c.before.before.before.loop in
-    (omega (arith, c.before.before.loop-test.true), walk_more (here a.r) l.v l.invariant.1 (at_next a.r l.v ∙ sym c.before.is_said.ensures ∙ not-false _ c.if1.false))
+    let a = c.args in
+    let l = c.loop-v in
+    (omega (arith, c.loop-v-test.true), walk_more (here a.r) l.v l.invariant.1 (at_next a.r l.v ∙ sym c.is_said.ensures ∙ not-false _ c.if-not-is_said.false))
 
-returns-2 : tie.Need-returns-2 invariant-loop decreases-loop
+returns-2 : tie.Need-returns invariant-loop decreases-loop
 returns-2 c =
-    let a = c.before.before.args in
-    let l = c.before.loop in
-    sym (walk_ends _ a.most l.v l.invariant.0 c.loop-test.false l.invariant.1)
+    let a = c.args in
+    let l = c.loop-v in
+    sym (walk_ends _ a.most l.v l.invariant.0 c.loop-v-test.false l.invariant.1)
 
 pub all_said_spec : {M : Type 1} → statement M
 all_said_spec =

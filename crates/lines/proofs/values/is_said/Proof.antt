@@ -7,11 +7,11 @@ use Rattle.lines.proofs.TableLaws.{table_long, unsaid_past}
 use Rattle.lines.proofs.values.is_said.Statement.{statement}
 use Rattle.lines.proofs.values.is_said.Tie as tie
 
-returns : tie.Need-returns
+returns : tie.Need-returns-then-v-ge-VALUES
 returns c =
-    let a = c.before.args in
+    let a = c.args in
     let long : length a.t1.values ≡ 260 = search table_long in
-    sym (unsaid_past a.t1.values a.v (omega (arith, c.if1.true)))
+    sym (unsaid_past a.t1.values a.v (omega (arith, c.if-v-ge-VALUES.true)))
 
 pub is_said_spec : {M : Type 1} → statement M
 is_said_spec = tie.close (tie.spec returns (λ c. search rules) (λ c. search rules) (λ c. search rules))

@@ -11,42 +11,42 @@ use Rattle.lines.proofs.StepLaws.{words_last, words_more}
 use Rattle.lines.proofs.words.word_steps.Statement.{statement}
 use Rattle.lines.proofs.words.word_steps.Tie as tie
 
-abbrev invariant-loop : tie.invariant-loop
+abbrev invariant-loop : tie.invariant-loop-rest
 invariant-loop words most next₀ rest₀ next rest = (length rest ≤ length words) × (word_steps most next₀ (pieces space words) ≡ word_steps most next (pieces space rest))
 
-abbrev decreases-loop : tie.decreases-loop
+abbrev decreases-loop : tie.decreases-loop-rest
 decreases-loop words most next₀ rest₀ next rest = length rest
 
-slice_aggregate_word_step : tie.Need-slice-aggregate-word-step invariant-loop decreases-loop
+slice_aggregate_word_step : tie.Need-slice_bounds-word_step-end invariant-loop decreases-loop
 slice_aggregate_word_step c =
-    let rest = c.before.before.loop.rest.now in
-    omega (arith, length-take c.before.piece-length.result rest, c.before.piece-length.ensures, until_within space rest)
+    let rest = c.loop-rest.rest.now in
+    omega (arith, length-take c.piece_length-n.result rest, c.piece_length-n.ensures, until_within space rest)
 
-returns : tie.Need-returns invariant-loop decreases-loop
+returns : tie.Need-returns-then-n-rest invariant-loop decreases-loop
 returns c =
-    let l = c.before.before.before.before.loop in
-    c.before.word-step.ensures ∙ sym (l.invariant.1 ∙ words_last c.before.before.before.before.before.before.args.most l.next l.rest.now c.before.before.before.piece-length.result c.before.before.before.piece-length.ensures c.if1.true)
+    let l = c.loop-rest in
+    c.word_step-next.ensures ∙ sym (l.invariant.1 ∙ words_last c.args.most l.next l.rest.now c.piece_length-n.result c.piece_length-n.ensures c.if-n-rest.true)
 
 -- a space stands behind the word
-behind : (c : tie.Else1 invariant-loop decreases-loop) → c.before.before.before.piece-length.result < length c.before.before.before.before.loop.rest.now
+behind : (c : tie.Else-n-rest invariant-loop decreases-loop) → c.piece_length-n.result < length c.loop-rest.rest.now
 behind c =
-    let p = c.before.before.before in
-    omega (arith, p.piece-length.ensures, until_within space p.before.loop.rest.now, c.if1.false)
+    let p = c in
+    omega (arith, p.piece_length-n.ensures, until_within space p.loop-rest.rest.now, c.if-n-rest.false)
 
-loop-less : tie.Need-loop-smaller invariant-loop decreases-loop
+loop-less : tie.Need-loop-rest-smaller invariant-loop decreases-loop
 loop-less c =
-    let rest = c.before.before.before.before.before.loop.rest.now in
-    let n = c.before.before.before.before.piece-length.result in
+    let rest = c.loop-rest.rest.now in
+    let n = c.piece_length-n.result in
     omega (arith, length-take (length rest - (n + 1)) (drop (n + 1) rest), behind c.before)
 
-loop-again : tie.Need-loop-preserved invariant-loop decreases-loop
+loop-again : tie.Need-loop-rest-preserved invariant-loop decreases-loop
 loop-again c =
-    let l = c.before.before.before.before.before.loop in
-    let rest = c.before.before.before.before.before.loop.rest.now in
-    let n = c.before.before.before.before.piece-length.result in
-    let most = c.before.before.before.before.before.before.before.args.most in (
+    let l = c.loop-rest in
+    let rest = c.loop-rest.rest.now in
+    let n = c.piece_length-n.result in
+    let most = c.args.most in (
       omega (arith, length-take (length rest - (n + 1)) (drop (n + 1) rest), l.invariant.0, behind c.before),
-      l.invariant.1 ∙ words_more most l.next rest n c.before.before.before.before.piece-length.ensures (behind c.before) ∙ ap (λ x. word_steps most x (pieces space (take (length rest - (n + 1)) (drop (n + 1) rest)))) (sym c.before.before.word-step.ensures),
+      l.invariant.1 ∙ words_more most l.next rest n c.piece_length-n.ensures (behind c.before) ∙ ap (λ x. word_steps most x (pieces space (take (length rest - (n + 1)) (drop (n + 1) rest)))) (sym c.word_step-next.ensures),
     )
 
 pub word_steps_spec : {M : Type 1} → statement M

@@ -3,4 +3,4 @@ use Rattle.mask.proofs.blames.two_or_three.Statement.{statement}
 use Rattle.mask.proofs.blames.two_or_three.Tie as tie
 
 pub two_or_three_spec : {M : Type 1} → statement M
-two_or_three_spec = tie.close (tie.spec (λ c. rw c.if1.true) (λ c. rw (c.before.if1.false, c.if2.true)) (λ c. rw (c.before.if1.false, c.if2.false)))
+two_or_three_spec = tie.close (tie.spec (λ c. rw c.if-all.true) (λ c. rw (c.if-all.false, c.if-second.true)) (λ c. rw (c.if-all.false, c.if-second.false)))

@@ -6,7 +6,7 @@ use Rattle.mask.proofs.entries.entry_of.Tie as tie
 
 returns : tie.Need-returns
 unfolding entry_of
-returns c = rw c.lowest_set.ensures
+returns c = rw c.lowest_set-place.ensures
 
 pub entry_of_spec : {M : Type 1} → statement M
 entry_of_spec =

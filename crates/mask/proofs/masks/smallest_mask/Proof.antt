@@ -40,74 +40,74 @@ abbrev given : tie.At-masks invariant-entries decreases-entries invariant-masks 
 given l = l.before.before.before
 
 -- the walk over entries, seen from where one has failed
-abbrev walk : tie.Then2 invariant-entries decreases-entries invariant-masks decreases-masks → tie.At-entries invariant-entries decreases-entries invariant-masks decreases-masks
+abbrev walk : tie.Then-not-meets invariant-entries decreases-entries invariant-masks decreases-masks → tie.At-entries invariant-entries decreases-entries invariant-masks decreases-masks
 walk c = c.before.before.before.before
 
 -- an entry that the mask meets: the walk goes on behind it
 entries_again : tie.Need-entries-preserved invariant-entries decreases-entries invariant-masks decreases-masks
-entries_again c = let met = c.before.meets in below_more _ _ c.before.before.before.before.entries.invariant (sym met.ensures ∙ not-false met.result c.if2.false)
+entries_again c = let met = c.meets in below_more _ _ c.entries.invariant (sym met.ensures ∙ not-false met.result c.if-not-meets.false)
 
 -- where an entry fails, the bits that are to blame decide
-decided : (c : tie.After-blame invariant-entries decreases-entries invariant-masks decreases-masks) →
+decided : (c : tie.After-blame-decided invariant-entries decreases-entries invariant-masks decreases-masks) →
     let l = (walk c.before.before).before in let a = (given l).args in
-    IsDecided (meets_all (rows_of_entries a.entries.now) a.class) c.blame.result l.masks.m
+    IsDecided (meets_all (rows_of_entries a.entries.now) a.class) c.blame-decided.result l.masks.m
 decided c =
     let l = (walk c.before.before).before in
     let a = (given l).args in
-    let met = c.before.before.before.meets in
-    rw (c.blame.ensures, c.before.row_in.ensures)
-    (walk_decided a.class a.entries.now l.masks.m (walk c.before.before).entries.i c.before.before.before.before.before.if1.false (sym met.ensures ∙ not-true met.result c.before.before.if2.true))
+    let met = c.meets in
+    rw (c.blame-decided.ensures, c.row_in.ensures)
+    (walk_decided a.class a.entries.now l.masks.m (walk c.before.before).entries.i c.if-i-entries.false (sym met.ensures ∙ not-true met.result c.if-not-meets.true))
 
 -- where a bit is raised: the walk that failed, and the bit
-abbrev walked : tie.After-known-told invariant-entries decreases-entries invariant-masks decreases-masks → tie.At-entries invariant-entries decreases-entries invariant-masks decreases-masks
+abbrev walked : tie.In-Next invariant-entries decreases-entries invariant-masks decreases-masks → tie.At-entries invariant-entries decreases-entries invariant-masks decreases-masks
 walked c = walk c.before.before.before.before.before.before.before
 
-abbrev raised_bit : tie.After-known-told invariant-entries decreases-entries invariant-masks decreases-masks → ℕ
-raised_bit c = c.before.q.given.0.0
+abbrev raised_bit : tie.In-Next invariant-entries decreases-entries invariant-masks decreases-masks → ℕ
+raised_bit c = c.in-Next.q
 
 -- it is one of the mask's bits, and the mask lacks it
-lacks : (c : tie.After-known-told invariant-entries decreases-entries invariant-masks decreases-masks) → let l = (walked c).before in (raised_bit c < l.before.width.result) × (bit l.masks.m (raised_bit c) ≡ false)
-lacks c = let t = rw c.before.q.given.1 at c.before.before.before.next-mask.ensures in (t.0, t.1)
+lacks : (c : tie.In-Next invariant-entries decreases-entries invariant-masks decreases-masks) → let l = (walked c).before in (raised_bit c < l.before.width.result) × (bit l.masks.m (raised_bit c) ≡ false)
+lacks c = let t = rw c.in-Next.is at c.next_mask.ensures in (t.0, t.1)
 
-word : (c : tie.After-known-told invariant-entries decreases-entries invariant-masks decreases-masks) → raised_bit c < 32
+word : (c : tie.In-Next invariant-entries decreases-entries invariant-masks decreases-masks) → raised_bit c < 32
 word c = omega (arith, (lacks c).0, (walked c).before.before.width.ensures)
 
 -- the mask raised is larger, and has as many bits
-larger : (c : tie.After-raise invariant-entries decreases-entries invariant-masks decreases-masks) → let l = (walked c.before).before in (l.masks.m < c.raise.result) × (c.raise.result < 2 ^ l.before.width.result)
+larger : (c : tie.After-raise-m invariant-entries decreases-entries invariant-masks decreases-masks) → let l = (walked c.before).before in (l.masks.m < c.raise-m.result) × (c.raise-m.result < 2 ^ l.before.width.result)
 larger c =
     let l = (walked c.before).before in
-    rw c.raise.ensures (raised_larger l.before.width.result l.masks.m (raised_bit c.before) (lacks c.before).0 l.masks.inv.0 (lacks c.before).1)
+    rw c.raise-m.ensures (raised_larger l.before.width.result l.masks.m (raised_bit c.before) (lacks c.before).0 l.masks.inv.0 (lacks c.before).1)
 
 masks_again : tie.Need-masks-preserved invariant-entries decreases-entries invariant-masks decreases-masks
 masks_again c =
-    let k = c.before.before.before.before.before in
+    let k = c in
     let w = walked k in
     let l = w.before in
     let a = (given l).args in
-    let e = c.before.before.before.before.raise.ensures in
-    let t = rw k.before.q.given.1 at k.before.before.before.next-mask.ensures in
-    let n = c.before.before.note-up-to in
-    let met = meets_raised l.before.width.result a.class a.entries.now l.masks.m _ w.entries.i n.result (raised_bit k) c.back_to.result w.entries.inv n.ensures.1 n.ensures.0 t.0 t.1 c.back_to.ensures.0 c.back_to.ensures.1 in
-    ((larger c.before.before.before.before).1, rw e (t.2 (meets_all (rows_of_entries a.entries.now) a.class) l.masks.inv.1 (decided k.before.before.before.before.before)), rw e met, n.ensures.1)
+    let e = c.raise-m.ensures in
+    let t = rw k.in-Next.is at k.next_mask.ensures in
+    let n = c.note_up_to-noted in
+    let met = meets_raised l.before.width.result a.class a.entries.now l.masks.m _ w.entries.i n.result (raised_bit k.before.before.before.before.before) c.back_to-i.result w.entries.inv n.ensures.1 n.ensures.0 t.0 t.1 c.back_to-i.ensures.0 c.back_to-i.ensures.1 in
+    ((larger c.before.before.before.before).1, rw e (t.2 (meets_all (rows_of_entries a.entries.now) a.class) l.masks.inv.1 (decided k.before.before.before.before.before.before.before.before.before.before)), rw e met, n.ensures.1)
 
-returns : tie.Need-returns invariant-entries decreases-entries invariant-masks decreases-masks
+returns : tie.Need-returns-then-i-entries invariant-entries decreases-entries invariant-masks decreases-masks
 returns c =
-    let w = c.before in
-    let l = w.before in
-    let a = (given l).args in
+    let w = c in
+    let l = w in
+    let a = (given l.before.before).args in
     let m = l.masks.m in
-    let below = rw l.before.width.ensures at l.masks.invariant.0 in
-    let met = walk_end a.class a.entries.now m w.entries.i w.entries.invariant c.if1.true in
+    let below = rw l.width-bits.ensures at l.masks.invariant.0 in
+    let met = walk_end a.class a.entries.now m w.entries.i w.entries.invariant c.if-i-entries.true in
     let no_smaller = reasons_below 2 (omega arith) (IsOfNoUse (meets_all (rows_of_entries a.entries.now) a.class)) (reason_at l.masks.why) m l.masks.invariant.1.1 in
     sym (ap smallest_of (least_mask_one (2 ^ min a.sets 32) (rows_of_entries a.entries.now) a.class (some m) (below, met, no_smaller)))
 
-returns-2 : tie.Need-returns-2 invariant-entries decreases-entries invariant-masks decreases-masks
+returns-2 : tie.Need-returns-in-Over invariant-entries decreases-entries invariant-masks decreases-masks
 returns-2 c =
-    let k = c.before.before.before.before in
-    let l = (walk k.before.before).before in
+    let k = c in
+    let l = (walk k.before.before.before.before.before.before).before in
     let a = (given l).args in
-    let t = rw (c.enum_told.given.1, l.before.width.ensures) at c.before.before.next-mask.ensures in
-    sym (ap smallest_of (least_mask_one (2 ^ min a.sets 32) (rows_of_entries a.entries.now) a.class none (t (meets_all (rows_of_entries a.entries.now) a.class) l.masks.inv.1 (decided k))))
+    let t = rw (c.in-Over.is, l.before.width.ensures) at c.next_mask.ensures in
+    sym (ap smallest_of (least_mask_one (2 ^ min a.sets 32) (rows_of_entries a.entries.now) a.class none (t (meets_all (rows_of_entries a.entries.now) a.class) l.masks.inv.1 (decided k.before.before.before.before))))
 
 pub smallest_mask_spec : {M : Type 1} → statement M
 smallest_mask_spec =
@@ -118,7 +118,7 @@ smallest_mask_spec =
     invariant-masks
     decreases-masks
     (λ c κs. search rules)
-    (λ c. (pow_pos c.width.result, (refl, reasons_start 2 (omega arith) _ _), (λ k l. absurd (omega arith)), before_start _ _ _ _ (notes_start 32 65535 _ (omega arith))))
+    (λ c. (pow_pos c.width-bits.result, (refl, reasons_start 2 (omega arith) _ _), (λ k l. absurd (omega arith)), before_start _ _ _ _ (notes_start 32 65535 _ (omega arith))))
     (λ c. c.masks.invariant.2)
     (λ c. search rules)
     (λ c. search rules)
@@ -132,7 +132,7 @@ smallest_mask_spec =
     (λ c. search rules)
     (λ c κs. (word c, (lacks c).1))
     (λ c κs. let w = walked c.before.before in (search rules, search rules, w.before.masks.inv.3))
-    (λ c κs. (word c.before.before.before.before, c.before.note-up-to.ensures.1.notes.small _))
+    (λ c κs. (word c.before.before.before.before, c.note_up_to-noted.ensures.1.notes.small _))
     (λ c. omega (arith, (larger c.before.before.before.before).0, (larger c.before.before.before.before).1))
     masks_again
     (λ c. search rules)

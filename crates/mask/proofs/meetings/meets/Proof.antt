@@ -10,18 +10,18 @@ use Rattle.mask.proofs.EntryLaws.{not_asked, asked, entry_apart, entry_meets}
 use Rattle.mask.proofs.meetings.meets.Statement.{statement}
 use Rattle.mask.proofs.meetings.meets.Tie as tie
 
-returns : tie.Need-returns
+returns : tie.Need-returns-then-not-is_asked
 returns c =
-    let a = c.before.before.args in
-    sym (entry_apart a.class a.m a.entry (not_asked a.class a.entry (sym c.before.is-asked.ensures ∙ not-true c.before.is-asked.result c.if1.true)))
+    let a = c.args in
+    sym (entry_apart a.class a.m a.entry (not_asked a.class a.entry (sym c.is_asked.ensures ∙ not-true c.is_asked.result c.if-not-is_asked.true)))
 
-returns-2 : tie.Need-returns-2
+returns-2 : tie.Need-returns
 unfolding row_of
 returns-2 c =
-    let b = c.before.before.before in
-    let a = b.before.before.args in
-    c.passes.ensures ∙ ap (λ p. fits a.m (bit a.class) (row_of_parts p).test) (rw c.before.before.row_in.ensures at c.before.unpack.ensures)
-    ∙ sym (entry_meets a.class a.m a.entry (asked a.class a.entry (sym b.before.is-asked.ensures ∙ not-false b.before.is-asked.result b.if1.false)))
+    let b = c in
+    let a = b.args in
+    c.passes.ensures ∙ ap (λ p. fits a.m (bit a.class) (row_of_parts p).test) (rw c.row_in.ensures at c.unpack.ensures)
+    ∙ sym (entry_meets a.class a.m a.entry (asked a.class a.entry (sym b.is_asked.ensures ∙ not-false b.is_asked.result b.if-not-is_asked.false)))
 
 pub meets_spec : {M : Type 1} → statement M
 meets_spec =

@@ -8,32 +8,32 @@ use Rattle.mask.proofs.NoteLaws.{Noting, noting_start, noting_turn, noting_end}
 use Rattle.mask.proofs.notes.note.Statement.{statement}
 use Rattle.mask.proofs.notes.note.Tie as tie
 
-abbrev invariant-loop : tie.invariant-loop
+abbrev invariant-loop : tie.invariant-loop-q
 invariant-loop first₀ low i bits q₀ first q = Noting low i first₀ q first
 
-abbrev decreases-loop : tie.decreases-loop
+abbrev decreases-loop : tie.decreases-loop-q
 decreases-loop first₀ low i bits q₀ first q = bits - q
 
 -- the index at q is as it was, so it is small
-small : (c : tie.In-loop invariant-loop decreases-loop) → get_or c.before.loop.first c.before.loop.q 0 < note_bound
-small c = rw (c.before.loop.invariant.above c.before.loop.q (omega arith)) (c.before.before.requires.1.small c.before.loop.q)
+small : (c : tie.In-loop-q invariant-loop decreases-loop) → get_or c.loop-q.first c.loop-q.q 0 < note_bound
+small c = rw (c.loop-q.invariant.above c.loop-q.q (omega arith)) (c.requires.1.small c.loop-q.q)
 
-returns : tie.Need-returns invariant-loop decreases-loop
+returns : tie.Need-returns-then-first-at invariant-loop decreases-loop
 returns c =
-    let l = c.before.before.before.loop in
-    let s = c.before.before.before.before in
-    noting_end s.args.low s.args.i s.args.first.now s.args.bits l.q l.first s.requires.1 l.invariant (λ h. c.if1.true)
+    let l = c.loop-q in
+    let s = c in
+    noting_end s.args.low s.args.i s.args.first.now s.args.bits l.q l.first s.requires.1 l.invariant (λ h. c.if-first-at.true)
 
-loop-again : tie.Need-loop-preserved invariant-loop decreases-loop
+loop-again : tie.Need-loop-q-preserved invariant-loop decreases-loop
 loop-again c =
-    let l = c.before.before.before.loop in
-    let a = c.before.before.before.before.args in
-    noting_turn a.low a.i a.first.now l.q l.first l.invariant c.if1.false
+    let l = c.loop-q in
+    let a = c.args in
+    noting_turn a.low a.i a.first.now l.q l.first l.invariant c.if-first-at.false
 
-returns-2 : tie.Need-returns-2 invariant-loop decreases-loop
+returns-2 : tie.Need-returns invariant-loop decreases-loop
 returns-2 c =
-    let l = c.before.loop in
-    let s = c.before.before in
+    let l = c.loop-q in
+    let s = c in
     noting_end s.args.low s.args.i s.args.first.now s.args.bits l.q l.first s.requires.1 l.invariant (λ h. absurd (omega arith))
 
 pub note_spec : {M : Type 1} → statement M
@@ -46,9 +46,9 @@ note_spec =
     (λ c. search rules)
     (λ c. search rules)
     (λ c. search rules)
-    (λ c. omega (arith, small c.before))
-    returns
     (λ c. omega (arith, small c.before.before))
+    returns
+    (λ c. omega (arith, small c.before.before.before))
     (λ c. search rules)
     (λ c. search rules)
     (λ c. search rules)

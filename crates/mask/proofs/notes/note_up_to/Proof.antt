@@ -11,23 +11,23 @@ use Rattle.mask.proofs.NoteLaws.{before_over, before_noted}
 use Rattle.mask.proofs.notes.note_up_to.Statement.{statement}
 use Rattle.mask.proofs.notes.note_up_to.Tie as tie
 
-abbrev invariant-loop : tie.invariant-loop
+abbrev invariant-loop : tie.invariant-loop-i
 invariant-loop entries class bits first₀ from to i₀ first i = NotesBefore bits class entries first i
 
-abbrev decreases-loop : tie.decreases-loop
+abbrev decreases-loop : tie.decreases-loop-i
 decreases-loop entries class bits first₀ from to i₀ first i = to - i
 
-loop-again : tie.Need-loop-preserved invariant-loop decreases-loop
+loop-again : tie.Need-loop-i-preserved invariant-loop decreases-loop
 loop-again c =
-    let l = c.before.before.before.before.loop in
-    let a = c.before.before.before.before.before.before.args in
+    let l = c.loop-i in
+    let a = c.args in
     let es = a.entries.now in
     let noted : List ℕ → Type 0 = λ first. NotesBefore a.bits a.class es first (l.i + 1) in
-    let is = sym c.before.is-asked.ensures in
+    let is = sym c.is_asked.ensures in
     ⊎_elim
     (λ w. subst noted (sym w.5) (before_noted a.bits a.class es l.first _ l.i l.invariant (asked a.class (get_or es l.i 0) (is ∙ w.0.taken)) (rw (w.3.ensures, w.2.ensures) at w.4.ensures)))
     (λ w. subst noted (sym w.1) (before_over a.bits a.class es l.first l.i l.invariant (not_asked a.class (get_or es l.i 0) (is ∙ w.0.left))))
-    c.if1.branch
+    c.if-is_asked.branch-raw
 
 pub note_up_to_spec : {M : Type 1} → statement M
 note_up_to_spec =
@@ -45,4 +45,4 @@ note_up_to_spec =
     (λ c. search rules)
     (λ c. search rules)
     loop-again
-    (λ c. (search rules, c.before.loop.invariant)))
+    (λ c. (search rules, c.loop-i.invariant)))

@@ -12,40 +12,40 @@ use Rattle.mask.proofs.TrialLaws.{Carried, carried_pass, carried_resolve, trial_
 use Rattle.mask.proofs.trials.next_mask.Statement.{statement}
 use Rattle.mask.proofs.trials.next_mask.Tie as tie
 
-abbrev invariant-loop : tie.invariant-loop
+abbrev invariant-loop : tie.invariant-loop-q
 invariant-loop m why₀ decided sets c₀ q₀ why c q = (q ≤ sets) × (why ≡ why₀) × Carried m why decided q c
 
-abbrev decreases-loop : tie.decreases-loop
+abbrev decreases-loop : tie.decreases-loop-q
 decreases-loop m why₀ decided sets c₀ q₀ why c q = sets - q
 
 -- the reasons at entry are those of the loop
-returns : tie.Need-returns invariant-loop decreases-loop
+returns : tie.Need-returns-then-not-bit invariant-loop decreases-loop
 returns c =
-    let k = c.before.before.before.before.before in
-    let a = k.before.args in
-    let l = k.loop in
-    let lacks = sym c.before.bit2.ensures ∙ not-true c.before.bit2.result c.if2.true in
+    let k = c in
+    let a = k.args in
+    let l = k.loop-q in
+    let lacks = sym c.bit-then-bit.ensures ∙ not-true c.bit-then-bit.result c.if-not-bit.true in
     subst (λ v. TrialIs a.sets a.m a.decided v (set l.why l.q l.c) (Next l.q)) l.invariant.1
-    (trial_next a.m l.why a.decided a.sets k.before.requires.1 l.q l.c k.before.requires.0 c.before.before.before.before.loop-test.true lacks l.invariant.2)
+    (trial_next a.m l.why a.decided a.sets k.requires.1 l.q l.c k.requires.0 c.loop-q-test.true lacks l.invariant.2)
 
-loop-again : tie.Need-loop-preserved invariant-loop decreases-loop
+loop-again : tie.Need-loop-q-preserved invariant-loop decreases-loop
 loop-again c =
-    let a = c.before.before.before.before.args in
-    let l = c.before.before.before.loop in
+    let a = c.args in
+    let l = c.loop-q in
     let carried = Carried a.m l.why a.decided (l.q + 1) in (
       search rules,
       l.invariant.1,
       ⊎_elim
           (λ w. subst carried (sym w.4) (carried_resolve a.m l.why a.decided l.q l.c (sym w.1.ensures ∙ not-false w.1.result w.2.left) l.invariant.2))
-          (λ w. subst carried (sym w.1) (carried_pass a.m l.why a.decided l.q l.c (sym c.before.bit.ensures ∙ w.0.left) l.invariant.2))
-          c.if1.branch,
+          (λ w. subst carried (sym w.1) (carried_pass a.m l.why a.decided l.q l.c (sym c.bit.ensures ∙ w.0.left) l.invariant.2))
+          c.if-bit.branch-raw,
     )
 
-returns-2 : tie.Need-returns-2 invariant-loop decreases-loop
+returns-2 : tie.Need-returns invariant-loop decreases-loop
 returns-2 c =
-    let a = c.before.before.args in
-    let l = c.before.loop in
-    subst (λ v. TrialIs a.sets a.m a.decided v v Over) l.invariant.1 (trial_over a.m l.why a.decided a.sets c.before.before.requires.1 l.q l.c c.loop-test.false l.invariant.2)
+    let a = c.args in
+    let l = c.loop-q in
+    subst (λ v. TrialIs a.sets a.m a.decided v v Over) l.invariant.1 (trial_over a.m l.why a.decided a.sets c.requires.1 l.q l.c c.loop-q-test.false l.invariant.2)
 
 pub next_mask_spec : {M : Type 1} → statement M
 next_mask_spec =

@@ -11,8 +11,8 @@ use Rattle.model_file.proofs.reads.has_its_length.Tie as tie
 returns : tie.Need-returns
 unfolding has_its_length
 returns c =
-    let a = c.before.before.args in
-    ap (λ n. eqb (length a.bytes.now) (model_length a.elements n)) c.byte_at.ensures
+    let a = c.args in
+    ap (λ n. eqb (length a.bytes.now) (model_length a.elements n)) c.byte_at-n.ensures
 
 pub has_its_length_spec : {M : Type 1} → statement M
 has_its_length_spec =

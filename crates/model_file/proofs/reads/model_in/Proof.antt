@@ -10,11 +10,11 @@ use Rattle.model_file.proofs.reads.model_in.Tie as tie
 
 returns : tie.Need-returns
 returns c =
-    let s = c.before.before.before.before.before.before in
+    let s = c in
     let E = s.args.elements in
     let bytes = s.args.bytes.now in
     let same : 1 + E - 1 ≡ E = omega arith in
-    parts E bytes {n = length bytes - (1 + E)} same (omega (arith, length-drop (1 + E) bytes)) (rw (c.before.before.before.before.byte_at.ensures, c.before.before.numbers-in.ensures, c.masks-in.ensures))
+    parts E bytes {n = length bytes - (1 + E)} same (omega (arith, length-drop (1 + E) bytes)) (rw (c.byte_at-size.ensures, c.numbers_in-points.ensures, c.masks_in-masks.ensures))
 
 pub model_in_spec : {M : Type 1} → statement M
 model_in_spec =

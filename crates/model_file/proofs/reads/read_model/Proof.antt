@@ -11,19 +11,19 @@ use Rattle.model_file.proofs.ReadLaws.{its_length, read_said, read_bad}
 use Rattle.model_file.proofs.reads.read_model.Statement.{statement}
 use Rattle.model_file.proofs.reads.read_model.Tie as tie
 
-returns : tie.Need-returns
+returns : tie.Need-returns-then-not-has_its_length
 returns c =
-    let a = c.before.before.before.before.args in
-    c.refuse.ensures ∙ sym (read_bad a.elements a.bytes.now (sym c.before.before.has-its-length.ensures ∙ not-true _ c.before.if1.true))
+    let a = c.args in
+    c.refuse.ensures ∙ sym (read_bad a.elements a.bytes.now (sym c.has_its_length.ensures ∙ not-true _ c.if-not-has_its_length.true))
 
 -- the bytes have their length
-has : (c : tie.Else1) → let a = c.before.before.before.args in has_its_length a.elements a.bytes.now ≡ true
-has c = sym c.before.has-its-length.ensures ∙ not-false _ c.if1.false
+has : (c : tie.Else-not-has_its_length) → let a = c.args in has_its_length a.elements a.bytes.now ≡ true
+has c = sym c.has_its_length.ensures ∙ not-false _ c.if-not-has_its_length.false
 
-returns-2 : tie.Need-returns-2
+returns-2 : tie.Need-returns
 returns-2 c =
-    let a = c.before.before.before.before.args in
-    ap (λ m. let x : ReadModel = record { outcome = Accepted; model = m } in x) c.model_in.ensures ∙ sym (read_said a.elements a.bytes.now (has c.before))
+    let a = c.args in
+    ap (λ m. let x : ReadModel = record { outcome = Accepted; model = m } in x) c.model_in-model.ensures ∙ sym (read_said a.elements a.bytes.now (has c.before))
 
 pub read_model_spec : {M : Type 1} → statement M
 read_model_spec =
@@ -32,5 +32,5 @@ read_model_spec =
     (λ c κs. search rules)
     (λ c κs. search rules)
     returns
-    (λ c κs. omega (arith, its_length c.before.before.before.args.elements c.before.before.before.args.bytes.now (has c)))
+    (λ c κs. omega (arith, its_length c.args.elements c.args.bytes.now (has c)))
     returns-2)

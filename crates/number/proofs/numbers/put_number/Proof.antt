@@ -10,20 +10,20 @@ use Rattle.number.proofs.NumberLaws.{bytes_start, bytes_next, bytes_end}
 use Rattle.number.proofs.numbers.put_number.Statement.{statement}
 use Rattle.number.proofs.numbers.put_number.Tie as tie
 
-abbrev invariant-loop : tie.invariant-loop
+abbrev invariant-loop : tie.invariant-loop-i
 invariant-loop n buf₀ rest₀ i₀ buf rest i = (i ≤ length buf₀) × (length buf ≡ length buf₀) × (bytes_of (length buf₀) n ≡ bytes_of i rest ++ drop i buf)
 
-abbrev decreases-loop : tie.decreases-loop
+abbrev decreases-loop : tie.decreases-loop-i
 decreases-loop n buf₀ rest₀ i₀ buf rest i = i
 
-loop-again : tie.Need-loop-preserved invariant-loop decreases-loop
+loop-again : tie.Need-loop-i-preserved invariant-loop decreases-loop
 loop-again c =
-    let l = c.before.loop in
-    (omega arith, simp length-set l.invariant.1, l.invariant.2 ∙ bytes_next l.i l.rest l.buf c.loop-test.true (omega arith))
+    let l = c.loop-i in
+    (omega arith, simp length-set l.invariant.1, l.invariant.2 ∙ bytes_next l.i l.rest l.buf c.loop-i-test.true (omega arith))
 
 returns : tie.Need-returns invariant-loop decreases-loop
 returns c =
-    let l = c.before.loop in
+    let l = c.loop-i in
     sym (l.invariant.2 ∙ bytes_end l.i l.rest l.buf (omega arith))
 
 pub put_number_spec : {M : Type 1} → statement M

@@ -9,20 +9,20 @@ use Rattle.question.specs.Limits.{max_terms}
 use Rattle.question.proofs.admissions.room_for_witness.Statement.{statement}
 use Rattle.question.proofs.admissions.room_for_witness.Tie as tie
 
-returns : tie.Need-returns
+returns : tie.Need-returns-then-terms-ge-MAX_TERMS
 returns c =
-    let a = c.before.before.before.args in
-    let tag = sym c.before.before.tag.ensures ∙ c.before.if1.true in
+    let a = c.args in
+    let tag = sym c.tag-tag.ensures ∙ c.if-tag-eq33.true in
     simp (eq-eqb (tag_of a.s) 0x21 tag, lt-ltb max_terms (a.terms + 1) (omega arith))
 
-returns-2 : tie.Need-returns-2
+returns-2 : tie.Need-returns-else-terms-ge-MAX_TERMS
 returns-2 c =
-    let a = c.before.before.before.args in
-    let tag = sym c.before.before.tag.ensures ∙ c.before.if1.true in
+    let a = c.args in
+    let tag = sym c.tag-tag.ensures ∙ c.if-tag-eq33.true in
     simp (eq-eqb (tag_of a.s) 0x21 tag, le-ltb max_terms (a.terms + 1) (omega arith))
 
-returns-3 : tie.Need-returns-3
-returns-3 c = simp (ne_eqb (tag_of c.before.before.args.s) 0x21 (λ e. c.if1.false (c.before.tag.ensures ∙ e)))
+returns-3 : tie.Need-returns-else-tag-eq33
+returns-3 c = simp (ne_eqb (tag_of c.args.s) 0x21 (λ e. c.if-tag-eq33.false (c.tag-tag.ensures ∙ e)))
 
 pub room_for_witness_spec : {M : Type 1} → statement M
 room_for_witness_spec = tie.close (tie.spec (λ c κs. search rules) returns returns-2 returns-3)

@@ -10,20 +10,20 @@ use Rattle.question.proofs.checks.check.Statement.{statement}
 use Rattle.question.proofs.checks.check.Tie as tie
 
 -- what the test of the names came to
-names : (c : tie.After-check-names) (x : Check) → c.check-names.result ≡ x → let q = c.before.args.q in names_checked_at 0 q.elements q.sets ≡ x
-names c x e = sym c.check-names.ensures ∙ e
+names : (c : tie.After-check_names) (x : Check) → c.check_names.result ≡ x → let q = c.args.q in names_checked_at 0 q.elements q.sets ≡ x
+names c x e = sym c.check_names.ensures ∙ e
 
-returns : tie.Need-returns
+returns : tie.Need-returns-then-q-gt-MAX_STATEMENTS
 unfolding checked
-returns c = rw (names c.before.before.before.before.before _ c.before.before.before.enum_told.given.1, lt-ltb max_statements _ c.before.if1.true) (ap Refused c.new.ensures)
+returns c = rw (names c.before.before.before.before.before _ c.in-Accepted.is, lt-ltb max_statements _ c.if-q-gt-MAX_STATEMENTS.true) (ap Refused c.new.ensures)
 
-returns-2 : tie.Need-returns-2
+returns-2 : tie.Need-returns-in-Refused
 unfolding checked
-returns-2 c = rw (names c.before.before.before _ c.before.refusal.given.1)
+returns-2 c = rw (names c.before.before.before _ c.in-Refused.is)
 
-returns-3 : tie.Need-returns-3
+returns-3 : tie.Need-returns-else-q-gt-MAX_STATEMENTS
 unfolding checked
-returns-3 c = rw (names c.before.before.before.before.before _ c.before.before.before.enum_told.given.1, le-ltb max_statements _ c.before.if1.false) c.check-statements.ensures
+returns-3 c = rw (names c.before.before.before.before.before _ c.in-Accepted.is, le-ltb max_statements _ c.if-q-gt-MAX_STATEMENTS.false) c.check_statements.ensures
 
 pub check_spec : {M : Type 1} → statement M
 check_spec =

@@ -7,14 +7,14 @@ use Rattle.question.specs.Limits.{max_elements, max_sets}
 use Rattle.question.proofs.checks.check_names.Statement.{statement}
 use Rattle.question.proofs.checks.check_names.Tie as tie
 
-returns : tie.Need-returns
-returns c = ap Refused c.new.ensures ∙ sym (simp (lt-ltb max_elements _ c.before.if1.true))
+returns : tie.Need-returns-then-elements-gt-MAX_ELEMENTS
+returns c = ap Refused c.new.ensures ∙ sym (simp (lt-ltb max_elements _ c.if-elements-gt-MAX_ELEMENTS.true))
 
-returns-2 : tie.Need-returns-2
-returns-2 c = ap Refused c.new2.ensures ∙ sym (simp (le-ltb max_elements _ c.before.before.if1.false, lt-ltb max_sets _ c.before.if2.true))
+returns-2 : tie.Need-returns-then-sets-gt-MAX_SETS
+returns-2 c = ap Refused c.new-then-sets-gt-MAX_SETS.ensures ∙ sym (simp (le-ltb max_elements _ c.if-elements-gt-MAX_ELEMENTS.false, lt-ltb max_sets _ c.if-sets-gt-MAX_SETS.true))
 
-returns-3 : tie.Need-returns-3
-returns-3 c = sym (simp (le-ltb max_elements _ c.before.if1.false, le-ltb max_sets _ c.if2.false))
+returns-3 : tie.Need-returns
+returns-3 c = sym (simp (le-ltb max_elements _ c.if-elements-gt-MAX_ELEMENTS.false, le-ltb max_sets _ c.if-sets-gt-MAX_SETS.false))
 
 pub check_names_spec : {M : Type 1} → statement M
 check_names_spec = tie.close (tie.spec (λ c κs. search rules) returns (λ c κs. search rules) returns-2 returns-3)

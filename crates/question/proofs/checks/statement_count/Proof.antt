@@ -6,15 +6,15 @@ use Rattle.question.proofs.StatementsLaws.{table_long, statements_length}
 use Rattle.question.proofs.checks.statement_count.Statement.{statement}
 use Rattle.question.proofs.checks.statement_count.Tie as tie
 
-returns : tie.Need-returns
+returns : tie.Need-returns-then-count-gt-MAX_STATEMENTS
 returns c =
-    let q = c.before.args.q in
+    let q = c.args.q in
     let long : length q.table ≡ 64 = search table_long in
     (omega (arith, statements_length q), omega arith)
 
-returns-2 : tie.Need-returns-2
+returns-2 : tie.Need-returns
 returns-2 c =
-    let q = c.before.args.q in
+    let q = c.args.q in
     let long : length q.table ≡ 64 = search table_long in
     (omega (arith, statements_length q), omega arith)
 

@@ -9,38 +9,38 @@ use Rattle.question.proofs.StatementsLaws.{witness_small, table_long, statements
 use Rattle.question.proofs.checks.terms.Statement.{statement}
 use Rattle.question.proofs.checks.terms.Tie as tie
 
-abbrev invariant-loop : tie.invariant-loop
+abbrev invariant-loop : tie.invariant-loop-i
 invariant-loop q elements count total₀ i₀ total i = (i ≤ 64) × (total ≤ elements + i) × (terms_of q ≡ terms_from q i total)
 
-abbrev decreases-loop : tie.decreases-loop
+abbrev decreases-loop : tie.decreases-loop-i
 decreases-loop q elements count total₀ i₀ total i = 64 - i
 
-few : (c : tie.After-witness-of invariant-loop decreases-loop) → c.witness-of.result ≤ 1
-few c = rw c.witness-of.ensures (witness_small _)
+few : (c : tie.After-witness_of-total invariant-loop decreases-loop) → c.witness_of-total.result ≤ 1
+few c = rw c.witness_of-total.ensures (witness_small _)
 
-loop-again : tie.Need-loop-preserved invariant-loop decreases-loop
+loop-again : tie.Need-loop-i-preserved invariant-loop decreases-loop
 loop-again c =
-    let l = c.before.before.before.before in
-    let q = l.before.args.t1 in
+    let l = c in
+    let q = l.args.t1 in
     let long : length q.table ≡ 64 = search table_long in (
       omega arith,
       omega (arith, few c),
-      l.loop.invariant.2 ∙ terms_turn q l.loop.i l.loop.total idle c.before.before.if1.false (omega arith)
-          ∙ ap (λ w. terms_from q (l.loop.i + 1) (l.loop.total + w)) (sym c.witness-of.ensures),
+      l.loop-i.invariant.2 ∙ terms_turn q l.loop-i.i l.loop-i.total idle c.if-count-i.false (omega arith)
+          ∙ ap (λ w. terms_from q (l.loop-i.i + 1) (l.loop-i.total + w)) (sym c.witness_of-total.ensures),
     )
 
-returns : tie.Need-returns invariant-loop decreases-loop
+returns : tie.Need-returns-after-loop-i invariant-loop decreases-loop
 returns c =
-    let l = c.before in
-    let q = l.before.args.t1 in
+    let l = c in
+    let q = l.args.t1 in
     let long : length q.table ≡ 64 = search table_long in
-    sym (l.loop.invariant.2 ∙ terms_end q l.loop.i l.loop.total (statements_full q l.loop.i (omega arith)))
+    sym (l.loop-i.invariant.2 ∙ terms_end q l.loop-i.i l.loop-i.total (statements_full q l.loop-i.i (omega arith)))
 
-returns-2 : tie.Need-returns-2 invariant-loop decreases-loop
+returns-2 : tie.Need-returns-then-count-i invariant-loop decreases-loop
 returns-2 c =
-    let l = c.before.before in
-    let q = l.before.args.t1 in
-    sym (l.loop.invariant.2 ∙ terms_end q l.loop.i l.loop.total (statements_end q l.loop.i c.if1.true))
+    let l = c in
+    let q = l.args.t1 in
+    sym (l.loop-i.invariant.2 ∙ terms_end q l.loop-i.i l.loop-i.total (statements_end q l.loop-i.i c.if-count-i.true))
 
 pub terms_spec : {M : Type 1} → statement M
 terms_spec =

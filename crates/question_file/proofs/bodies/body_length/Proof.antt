@@ -12,8 +12,8 @@ use Rattle.question_file.proofs.BodyLaws.{field}
 use Rattle.question_file.proofs.bodies.body_length.Statement.{statement}
 use Rattle.question_file.proofs.bodies.body_length.Tie as tie
 
-listed : (c : tie.After-length-of) → c.length-of.result ≡ Fixed (length (body_of c.before.before.args.s))
-listed c = c.length-of.ensures ∙ ap (length_of QuestionFile) c.before.tag.ensures ∙ (field c.before.before.args.s).listed
+listed : (c : tie.After-length_of) → c.length_of.result ≡ Fixed (length (body_of c.args.s))
+listed c = c.length_of.ensures ∙ ap (length_of QuestionFile) c.tag.ensures ∙ (field c.args.s).listed
 
 unknown_fixed : {A : Type 0} {n : ℕ} → Unknown ≡ Fixed n → A
 unknown_fixed e = never cc
@@ -24,14 +24,14 @@ depends_fixed e = never cc
 fixed_same : {m n : ℕ} → Fixed m ≡ Fixed n → m ≡ n
 fixed_same e = cc
 
-returns : tie.Need-returns
-returns c = unknown_fixed (sym c.enum_told.given.1 ∙ listed c.before.before)
+returns : tie.Need-returns-in-Unknown
+returns c = unknown_fixed (sym c.in-Unknown.is ∙ listed c.before.before)
 
-returns-2 : tie.Need-returns-2
-returns-2 c = fixed_same (sym c.before.n.given.1 ∙ listed c.before.before.before)
+returns-2 : tie.Need-returns-in-Fixed
+returns-2 c = fixed_same (sym c.in-Fixed.is ∙ listed c.before.before.before)
 
-returns-3 : tie.Need-returns-3
-returns-3 c = depends_fixed (sym c.enum-told2.given.1 ∙ listed c.before.before)
+returns-3 : tie.Need-returns-in-Depends
+returns-3 c = depends_fixed (sym c.in-Depends.is ∙ listed c.before.before)
 
 pub body_length_spec : {M : Type 1} → statement M
 body_length_spec = tie.close (tie.spec (λ c κs. search rules) (λ c κs. search rules) (λ c. search rules) (λ c. search rules) (λ c. search rules) returns returns-2 returns-3)

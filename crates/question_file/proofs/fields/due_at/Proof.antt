@@ -4,11 +4,11 @@ use borrow.Author.Tests.{eq-eqb, ne_eqb}
 use Rattle.question_file.proofs.fields.due_at.Statement.{statement}
 use Rattle.question_file.proofs.fields.due_at.Tie as tie
 
-returns : tie.Need-returns
-returns c = sym (simp (eq-eqb _ _ c.if1.true))
+returns : tie.Need-returns-then-at-eq0
+returns c = sym (simp (eq-eqb _ _ c.if-at-eq0.true))
 
-returns-2 : tie.Need-returns-2
-returns-2 c = sym (simp (ne_eqb _ _ c.if1.false))
+returns-2 : tie.Need-returns
+returns-2 c = sym (simp (ne_eqb _ _ c.if-at-eq0.false))
 
 pub due_at_spec : {M : Type 1} → statement M
 due_at_spec = tie.close (tie.spec returns returns-2)

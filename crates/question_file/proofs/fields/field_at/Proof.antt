@@ -11,28 +11,28 @@ use Rattle.question_file.proofs.fields.field_at.Statement.{statement}
 use Rattle.question_file.proofs.fields.field_at.Tie as tie
 
 -- what the frame came to
-framed : (c : tie.After-frame-at) (x : Frame) → c.frame_at.result ≡ x → let a = c.before.before.before.args in frame_of QuestionFile (due_at a.at) 0 (drop a.at a.bytes.now) ≡ x
-framed c x e = let a = c.before.before.before.args in ap (λ d. frame_of QuestionFile d 0 (drop a.at a.bytes.now)) (sym c.before.due-at.ensures) ∙ sym c.frame_at.ensures ∙ e
+framed : (c : tie.After-frame_at) (x : Frame) → c.frame_at.result ≡ x → let a = c.args in frame_of QuestionFile (due_at a.at) 0 (drop a.at a.bytes.now) ≡ x
+framed c x e = let a = c.args in ap (λ d. frame_of QuestionFile d 0 (drop a.at a.bytes.now)) (sym c.due_at.ensures) ∙ sym c.frame_at.ensures ∙ e
 
 say-requires : tie.Need-say-requires
 say-requires c κs =
-    let f = c.before.before.before in
-    let a = f.before.before.before.args in
-    within QuestionFile (due_at a.at) 0 a.bytes.now a.at _ _ (framed f _ c.before.tag.given.1)
+    let f = c in
+    let a = f.args in
+    within QuestionFile (due_at a.at) 0 a.bytes.now a.at _ _ (framed f.before.before.before _ c.in-Sound.is)
 
-returns : tie.Need-returns
+returns : tie.Need-returns-in-Refused
 unfolding said
 returns c =
-    let f = c.before.before.before in
-    let a = f.before.before.before.args in
-    sym (ap (λ x. framed_said x (drop a.at a.bytes.now) a.at) (framed f _ c.before.number.given.1))
+    let f = c in
+    let a = f.args in
+    sym (ap (λ x. framed_said x (drop a.at a.bytes.now) a.at) (framed f.before.before.before _ c.in-Refused.is))
 
-returns-2 : tie.Need-returns-2
+returns-2 : tie.Need-returns-in-Sound
 unfolding said
 returns-2 c =
-    let f = c.before.before.before.before in
-    let a = f.before.before.before.args in
-    c.say.ensures ∙ sym (ap (λ x. framed_said x (drop a.at a.bytes.now) a.at) (framed f _ c.before.before.tag.given.1))
+    let f = c in
+    let a = f.args in
+    c.say.ensures ∙ sym (ap (λ x. framed_said x (drop a.at a.bytes.now) a.at) (framed f.before.before.before.before _ c.in-Sound.is))
 
 pub field_at_spec : {M : Type 1} → statement M
 field_at_spec = tie.close (tie.spec (λ c κs. search rules) (λ c κs. search rules) (λ c. search rules) (λ c. search rules) say-requires returns returns-2)

@@ -14,35 +14,35 @@ use Rattle.question_file.proofs.fields.say.Statement.{statement}
 use Rattle.question_file.proofs.fields.say.Tie as tie
 
 -- the definition with what the calls gave
-asked : (c : tie.After-byte-at3) →
-    let a = c.before.before.before.before.args in
+asked : (c : tie.After-byte_at-c) →
+    let a = c.args in
     let next = a.at + (3 + a.n) in
     said_by a.tag (drop 3 (drop a.at a.bytes.now)) next ≡
-    cond (eqb a.tag 0x01) (Names c.before.before.byte_at.result c.before.byte-at2.result next)
+    cond (eqb a.tag 0x01) (Names c.byte_at-a.result c.byte_at-b.result next)
     (cond (eqb a.tag 0x7f) (Ended next)
-    (made_said (statement_of a.tag c.before.before.byte_at.result c.before.byte-at2.result c.byte-at3.result) next))
+    (made_said (statement_of a.tag c.byte_at-a.result c.byte_at-b.result c.byte_at-c.result) next))
 unfolding said_by
 asked c =
-    let a = c.before.before.before.before.args in
-    rw (c.before.before.byte_at.ensures, c.before.byte-at2.ensures, c.byte-at3.ensures, body_byte a.bytes.now a.at 0, body_byte a.bytes.now a.at 1, body_byte a.bytes.now a.at 2)
+    let a = c.args in
+    rw (c.byte_at-a.ensures, c.byte_at-b.ensures, c.byte_at-c.ensures, body_byte a.bytes.now a.at 0, body_byte a.bytes.now a.at 1, body_byte a.bytes.now a.at 2)
 
-returns : tie.Need-returns
-returns c = sym (rw (eq-eqb _ _ c.if1.true) at (asked c.before))
+returns : tie.Need-returns-then-tag-eq1
+returns c = sym (rw (eq-eqb _ _ c.if-tag-eq1.true) at (asked c.before))
 
-returns-2 : tie.Need-returns-2
-returns-2 c = sym (rw (ne_eqb _ _ c.before.if1.false, eq-eqb _ _ c.if2.true) at (asked c.before.before))
+returns-2 : tie.Need-returns-then-tag-eq127
+returns-2 c = sym (rw (ne_eqb _ _ c.if-tag-eq1.false, eq-eqb _ _ c.if-tag-eq127.true) at (asked c.before.before))
 
-returns-3 : tie.Need-returns-3
+returns-3 : tie.Need-returns-in-Stated
 returns-3 c =
-    let e = c.before.before.before in
-    let made = sym e.statement-of.ensures ∙ c.before.s.given.1 in
-    sym (rw (ne_eqb _ _ e.before.before.if1.false, ne_eqb _ _ e.before.if2.false, made) at (asked e.before.before.before))
+    let e = c in
+    let made = sym e.statement_of.ensures ∙ c.in-Stated.is in
+    sym (rw (ne_eqb _ _ e.if-tag-eq1.false, ne_eqb _ _ e.if-tag-eq127.false, made) at (asked e.before.before.before.before.before.before))
 
-returns-4 : tie.Need-returns-4
+returns-4 : tie.Need-returns-in-NotStated
 returns-4 c =
-    let e = c.before.before in
-    let made = sym e.statement-of.ensures ∙ c.enum_told.given.1 in
-    sym (rw (ne_eqb _ _ e.before.before.if1.false, ne_eqb _ _ e.before.if2.false, made) at (asked e.before.before.before))
+    let e = c in
+    let made = sym e.statement_of.ensures ∙ c.in-NotStated.is in
+    sym (rw (ne_eqb _ _ e.if-tag-eq1.false, ne_eqb _ _ e.if-tag-eq127.false, made) at (asked e.before.before.before.before.before))
 
 pub say_spec : {M : Type 1} → statement M
 say_spec =

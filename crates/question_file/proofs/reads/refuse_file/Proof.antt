@@ -7,7 +7,7 @@ use Rattle.question_file.proofs.reads.refuse_file.Statement.{statement}
 use Rattle.question_file.proofs.reads.refuse_file.Tie as tie
 
 returns : tie.Need-returns
-returns c = ap (λ x. record { outcome = Refused c.before.args.refusal; question = x }) (c.empty.ensures ∙ sym declaring_none)
+returns c = ap (λ x. record { outcome = Refused c.args.refusal; question = x }) (c.empty-question.ensures ∙ sym declaring_none)
 
 pub refuse_file_spec : {M : Type 1} → statement M
 refuse_file_spec = tie.close (tie.spec (λ c κs. search rules) returns)

@@ -14,37 +14,37 @@ use Rattle.question_file.proofs.StatementBytesLaws.{bytes_from, bytes_turn, byte
 use Rattle.question_file.proofs.writes.file_length.Statement.{statement}
 use Rattle.question_file.proofs.writes.file_length.Tie as tie
 
-abbrev invariant-loop : tie.invariant-loop
+abbrev invariant-loop : tie.invariant-loop-i
 invariant-loop q count total₀ i₀ total i = (i ≤ count) × (total ≤ 8 + 6 * i) × (length (question_bytes q) ≡ total + length (bytes_from q i))
 
-abbrev decreases-loop : tie.decreases-loop
+abbrev decreases-loop : tie.decreases-loop-i
 decreases-loop q count total₀ i₀ total i = count - i
 
 -- 01 and 7F have eight bytes
-ends : (c : tie.After-field-length2 invariant-loop decreases-loop) → c.before.field-length.result + c.field-length2.result ≡ 8
-ends c = omega (arith, c.before.field-length.ensures ∙ names_length, c.field-length2.ensures ∙ end_length)
+ends : (c : tie.After-field_length-2 invariant-loop decreases-loop) → c.field_length.result + c.field_length-2.result ≡ 8
+ends c = omega (arith, c.field_length.ensures ∙ names_length, c.field_length-2.ensures ∙ end_length)
 
 -- the statement's field by the table
-sized : (c : tie.After-field-length3 invariant-loop decreases-loop) → let l = c.before.before.before.before in c.field-length3.result ≡ length (statement_bytes (get_or l.before.before.before.args.t1.table l.loop.i idle).statement)
-sized c = c.field-length3.ensures ∙ ap (λ t. field_length QuestionFile t 0) c.before.tag.ensures ∙ statement_length (get_or c.before.before.before.before.before.before.before.args.t1.table c.before.before.before.before.loop.i idle).statement
+sized : (c : tie.After-field_length-total invariant-loop decreases-loop) → let l = c in c.field_length-total.result ≡ length (statement_bytes (get_or l.args.t1.table l.loop-i.i idle).statement)
+sized c = c.field_length-total.ensures ∙ ap (λ t. field_length QuestionFile t 0) c.tag.ensures ∙ statement_length (get_or c.args.t1.table c.loop-i.i idle).statement
 
-few : (c : tie.After-field-length3 invariant-loop decreases-loop) → c.field-length3.result ≤ 6
-few c = let l = c.before.before.before.before in omega (arith, sized c, (field (get_or l.before.before.before.args.t1.table l.loop.i idle).statement).few)
+few : (c : tie.After-field_length-total invariant-loop decreases-loop) → c.field_length-total.result ≤ 6
+few c = let l = c in omega (arith, sized c, (field (get_or l.args.t1.table l.loop-i.i idle).statement).few)
 
-loop-again : tie.Need-loop-preserved invariant-loop decreases-loop
+loop-again : tie.Need-loop-i-preserved invariant-loop decreases-loop
 loop-again c =
-    let l = c.before.before.before.before in
-    let q = l.before.before.before.args.t1 in
-    let s = (get_or q.table l.loop.i idle).statement in
+    let l = c in
+    let q = l.args.t1 in
+    let s = (get_or q.table l.loop-i.i idle).statement in
     let long : length q.table ≡ 64 = search table_long in
-    let turn = ap length (bytes_turn q l.loop.i idle c.before.before.before.loop-test.true (omega arith)) ∙ length-append (statement_bytes s) (bytes_from q (l.loop.i + 1)) in
-    (omega arith, omega (arith, few c), l.loop.invariant.2 ∙ omega (arith, turn, sized c))
+    let turn = ap length (bytes_turn q l.loop-i.i idle c.loop-i-test.true (omega arith)) ∙ length-append (statement_bytes s) (bytes_from q (l.loop-i.i + 1)) in
+    (omega arith, omega (arith, few c), l.loop-i.invariant.2 ∙ omega (arith, turn, sized c))
 
 returns : tie.Need-returns invariant-loop decreases-loop
 returns c =
-    let l = c.before in
-    let ended = ap length (bytes_end l.before.before.before.args.t1 l.loop.i c.loop-test.false) in
-    sym (l.loop.invariant.2 ∙ omega (arith, ended))
+    let l = c in
+    let ended = ap length (bytes_end l.args.t1 l.loop-i.i c.loop-i-test.false) in
+    sym (l.loop-i.invariant.2 ∙ omega (arith, ended))
 
 pub file_length_spec : {M : Type 1} → statement M
 file_length_spec =
@@ -55,7 +55,7 @@ file_length_spec =
     (λ c κs. search rules)
     (λ c κs. search rules)
     (λ c. omega (arith, ends c))
-    (λ c. (omega arith, omega (arith, ends c), omega (arith, question_length c.before.before.args.t1, ends c)))
+    (λ c. (omega arith, omega (arith, ends c), omega (arith, question_length c.args.t1, ends c)))
     (λ c. search rules)
     (λ c. search rules)
     (λ c κs. search rules)

@@ -15,57 +15,57 @@ use Rattle.question_file.proofs.writes.put_question.Statement.{statement}
 use Rattle.question_file.proofs.writes.put_question.Tie as tie
 
 -- field 01 is written
-begun : (c : tie.After-slice-known2) →
-    let p = c.before.before.put-field in let a = c.before.before.before.before.before.before.args in
+begun : (c : tie.After-slice_known-2-1) →
+    let p = c.put_field-first in let a = c.args in
     Run (question_bytes a.q) a.buf.now (statements_bytes (statements a.q) ++ end_bytes) p.new.1.1.0 p.result
 unfolding file_bytes
 begun c =
-    let p = c.before.before.put-field in
-    let s = c.before.before.before.before.before.before in
+    let p = c.put_field-first in
+    let s = c in
     let a = s.args in
     let whole = written 0x01 (a.q.elements ∷ a.q.sets ∷ []) a.buf.now (omega arith) (omega (arith, s.requires.1)) in
     run_first (names_bytes a.q.elements a.q.sets) (statements_bytes (statements a.q) ++ end_bytes) (p.ensures.0 ∙ whole.0) (p.ensures.1 ∙ whole.1)
 
 -- the statements' fields and 7F fit behind it
-first_fits : (c : tie.After-slice-known2) →
-    let p = c.before.before.put-field in let a = c.before.before.before.before.before.before.args in
+first_fits : (c : tie.After-slice_known-2-1) →
+    let p = c.put_field-first in let a = c.args in
     (length p.new.1.1.0 ≡ length a.buf.now) × (p.result + (length (statements_bytes (statements a.q)) + 3) ≤ length p.new.1.1.0)
 first_fits c =
-    let s = c.before.before.before.before.before.before in
+    let s = c in
     let room = run_room (begun c) s.requires.1 in
     (room.0, omega (arith, room.0, room.1, s.requires.1, length-append (statements_bytes (statements s.args.q)) end_bytes))
 
 -- the statements' fields are written
-most : (c : tie.After-slice-known3) →
-    let p = c.before.before.put-statements in let f = c.before.before.before.before.before.before.put-field in
-    let a = c.before.before.before.before.before.before.before.before.before.before.args in
+most : (c : tie.After-slice_known-3-1) →
+    let p = c.put_statements-middle in let f = c.put_field-first in
+    let a = c.args in
     Run (question_bytes a.q) a.buf.now end_bytes (put_mid f.result (length f.new.1.1.0 - f.result) f.new.1.1.0 p.new.1.0) (f.result + p.result)
 most c =
-    let p = c.before.before.put-statements in
-    let a = c.before.before.before.before.before.before.before.before.before.before.args in
+    let p = c.put_statements-middle in
+    let a = c.args in
     rw p.ensures.0 (run_on (statements_bytes (statements a.q)) end_bytes p.new.1.0 (begun c.before.before.before.before) p.ensures.1)
 
 -- 7F fits behind them
-last_fits : (c : tie.After-slice-known3) →
-    let p = c.before.before.put-statements in let f = c.before.before.before.before.before.before.put-field in
-    let a = c.before.before.before.before.before.before.before.before.before.before.args in
+last_fits : (c : tie.After-slice_known-3-1) →
+    let p = c.put_statements-middle in let f = c.put_field-first in
+    let a = c.args in
     let buf = put_mid f.result (length f.new.1.1.0 - f.result) f.new.1.1.0 p.new.1.0 in
     (length buf ≡ length a.buf.now) × (f.result + p.result + 3 ≤ length buf)
 last_fits c =
-    let s = c.before.before.before.before.before.before.before.before.before.before in
+    let s = c in
     let room = run_room (most c) s.requires.1 in
     (room.0, omega (arith, room.0, room.1, s.requires.1))
 
 returns : tie.Need-returns
 returns c =
-    let p = c.before.before.put-field2 in
-    let m = c.before.before.before.before.before in
-    let f = m.before.before.before.before.before.before.put-field in
-    let buf = put_mid f.result (length f.new.1.1.0 - f.result) f.new.1.1.0 m.before.before.put-statements.new.1.0 in
-    let at = f.result + m.before.before.put-statements.result in
+    let p = c.put_field in
+    let m = c in
+    let f = m.put_field-first in
+    let buf = put_mid f.result (length f.new.1.1.0 - f.result) f.new.1.1.0 m.put_statements-middle.new.buf in
+    let at = f.result + m.put_statements-middle.result in
     let part = take (length buf - at) (drop at buf) in
-    let room : 3 ≤ length part = simp (length-take, length-drop) (omega (arith, (last_fits m).1)) in
-    (run_end (run_on end_bytes [] p.new.1.1.0 (most m) (p.ensures.1 ∙ (written 0x7f [] part (omega arith) (omega arith)).1))).1
+    let room : 3 ≤ length part = simp (length-take, length-drop) (omega (arith, (last_fits m.before.before.before.before.before.before).1)) in
+    (run_end (run_on end_bytes [] p.new.1.1.0 (most m.before.before.before.before.before.before) (p.ensures.1 ∙ (written 0x7f [] part (omega arith) (omega arith)).1))).1
 
 pub put_question_spec : {M : Type 1} → statement M
 put_question_spec =

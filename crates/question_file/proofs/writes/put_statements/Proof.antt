@@ -13,45 +13,45 @@ use Rattle.question_file.proofs.StatementBytesLaws.{bytes_from, bytes_turn, byte
 use Rattle.question_file.proofs.writes.put_statements.Statement.{statement}
 use Rattle.question_file.proofs.writes.put_statements.Tie as tie
 
-abbrev invariant-loop : tie.invariant-loop
+abbrev invariant-loop : tie.invariant-loop-i
 invariant-loop buf₀ q count at₀ i₀ buf at i = (i ≤ count) × Run (statements_bytes (statements q)) buf₀ (bytes_from q i) buf at
 
-abbrev decreases-loop : tie.decreases-loop
+abbrev decreases-loop : tie.decreases-loop-i
 decreases-loop buf₀ q count at₀ i₀ buf at i = count - i
 
 -- at a turn the next statement's field is still to come, and fits
-turned : (c : tie.In-loop invariant-loop decreases-loop) →
-    let l = c.before in let a = l.before.before.args in let q = a.t1 in
-    Run (statements_bytes (statements q)) a.buf.now (statement_bytes (get_or q.table l.loop.i idle).statement ++ bytes_from q (l.loop.i + 1)) l.loop.buf l.loop.at
+turned : (c : tie.In-loop-i invariant-loop decreases-loop) →
+    let l = c in let a = l.args in let q = a.t1 in
+    Run (statements_bytes (statements q)) a.buf.now (statement_bytes (get_or q.table l.loop-i.i idle).statement ++ bytes_from q (l.loop-i.i + 1)) l.loop-i.buf l.loop-i.at
 turned c =
-    let l = c.before in
-    let q = l.before.before.args.t1 in
+    let l = c in
+    let q = l.args.t1 in
     let long : length q.table ≡ 64 = search table_long in
-    rw (bytes_turn q l.loop.i idle c.loop-test.true (omega arith)) at l.loop.invariant.1
+    rw (bytes_turn q l.loop-i.i idle c.loop-i-test.true (omega arith)) at l.loop-i.invariant.1
 
-fits : (c : tie.In-loop invariant-loop decreases-loop) →
-    let l = c.before in let a = l.before.before.args in
-    (length l.loop.buf ≡ length a.buf.now) × (l.loop.at + length (statement_bytes (get_or a.t1.table l.loop.i idle).statement) ≤ length l.loop.buf)
+fits : (c : tie.In-loop-i invariant-loop decreases-loop) →
+    let l = c in let a = l.args in
+    (length l.loop-i.buf ≡ length a.buf.now) × (l.loop-i.at + length (statement_bytes (get_or a.t1.table l.loop-i.i idle).statement) ≤ length l.loop-i.buf)
 fits c =
-    let l = c.before in
-    let a = l.before.before.args in
-    let s = (get_or a.t1.table l.loop.i idle).statement in
-    let room = run_room (turned c) l.before.before.requires.1 in
-    (room.0, omega (arith, room.0, room.1, length-append (statement_bytes s) (bytes_from a.t1 (l.loop.i + 1)), l.before.before.requires.1))
+    let l = c in
+    let a = l.args in
+    let s = (get_or a.t1.table l.loop-i.i idle).statement in
+    let room = run_room (turned c) l.requires.1 in
+    (room.0, omega (arith, room.0, room.1, length-append (statement_bytes s) (bytes_from a.t1 (l.loop-i.i + 1)), l.requires.1))
 
-loop-again : tie.Need-loop-preserved invariant-loop decreases-loop
+loop-again : tie.Need-loop-i-preserved invariant-loop decreases-loop
 loop-again c =
-    let t = c.before.before.before.before.before in
-    let l = t.before in
-    let q = l.before.before.args.t1 in
-    let p = c.before.before.put-statement in
-    let s = (get_or q.table l.loop.i idle).statement in
-    (omega arith, rw p.ensures.0 (run_on (statement_bytes s) (bytes_from q (l.loop.i + 1)) p.new.1.0 (turned t) p.ensures.1))
+    let t = c in
+    let l = t in
+    let q = l.args.t1 in
+    let p = c.put_statement-at in
+    let s = (get_or q.table l.loop-i.i idle).statement in
+    (omega arith, rw p.ensures.0 (run_on (statement_bytes s) (bytes_from q (l.loop-i.i + 1)) p.new.1.0 (turned t.before.before.before.before.before) p.ensures.1))
 
 returns : tie.Need-returns invariant-loop decreases-loop
 returns c =
-    let l = c.before in
-    run_end (rw (bytes_end l.before.before.args.t1 l.loop.i c.loop-test.false) at l.loop.invariant.1)
+    let l = c in
+    run_end (rw (bytes_end l.args.t1 l.loop-i.i c.loop-i-test.false) at l.loop-i.invariant.1)
 
 pub put_statements_spec : {M : Type 1} → statement M
 put_statements_spec =
@@ -66,9 +66,9 @@ put_statements_spec =
     (λ c. omega (arith, (fits c.before).1))
     (λ c. omega (arith, (fits c.before).1))
     (λ c κs. simp (length-take, length-drop) (omega (arith, (fits c.before.before).1)))
-    (λ c. let f = fits c.before.before.before.before.before in omega (arith, f.0, f.1, c.before.before.put-statement.ensures.0))
+    (λ c. let f = fits c.before.before.before.before.before in omega (arith, f.0, f.1, c.put_statement-at.ensures.0))
     (λ c. search rules)
     (λ c. search rules)
     loop-again
-    (λ c. (run_room c.before.loop.invariant.1 c.before.before.before.requires.1).0)
+    (λ c. (run_room c.loop-i.invariant.1 c.requires.1).0)
     returns)

@@ -8,20 +8,20 @@ use Rattle.question_file.specs.Writes.{written, written_over}
 use Rattle.question_file.proofs.writes.write_question.Statement.{statement}
 use Rattle.question_file.proofs.writes.write_question.Tie as tie
 
-returns : tie.Need-returns
+returns : tie.Need-returns-in-Refused
 unfolding written written_over
 returns c =
-    let a = c.before.before.before.before.before.args in
-    let r = sym c.before.before.before.check.ensures ∙ c.before.refusal.given.1 in
+    let a = c.args in
+    let r = sym c.check.ensures ∙ c.in-Refused.is in
     (sym (ap (λ x. checked_then x (fitted (question_bytes a.q) (length a.buf.now))) r), sym (ap (λ x. checked_over x (fitted_over (question_bytes a.q) a.buf.now) a.buf.now) r))
 
-returns-2 : tie.Need-returns-2
+returns-2 : tie.Need-returns-in-Accepted
 unfolding written written_over
 returns-2 c =
-    let w = c.before.before.write-accepted in
-    let k = c.before.before.before.before in
-    let a = k.before.before.before.before.args in
-    let r = sym k.before.before.check.ensures ∙ k.enum_told.given.1 in
+    let w = c.write_accepted in
+    let k = c in
+    let a = k.args in
+    let r = sym k.check.ensures ∙ k.in-Accepted.is in
     (w.ensures.0 ∙ sym (ap (λ x. checked_then x (fitted (question_bytes a.q) (length a.buf.now))) r), w.ensures.1 ∙ sym (ap (λ x. checked_over x (fitted_over (question_bytes a.q) a.buf.now) a.buf.now) r))
 
 pub write_question_spec : {M : Type 1} → statement M
@@ -31,7 +31,7 @@ write_question_spec =
     (λ c κs. search rules)
     (λ c. search rules)
     (λ c. search rules)
-    (λ c κs. sym c.before.before.before.check.ensures ∙ c.before.enum_told.given.1)
+    (λ c κs. sym c.check.ensures ∙ c.in-Accepted.is)
     returns
     (λ c. search rules)
     returns-2)

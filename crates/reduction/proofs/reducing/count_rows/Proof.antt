@@ -10,44 +10,44 @@ use Rattle.reduction.proofs.ReducingLaws.{count_from, count_turn, count_end, pac
 use Rattle.reduction.proofs.reducing.count_rows.Statement.{statement}
 use Rattle.reduction.proofs.reducing.count_rows.Tie as tie
 
-abbrev invariant-loop : tie.invariant-loop
+abbrev invariant-loop : tie.invariant-loop-i
 invariant-loop terms q count total₀ i₀ total i = (i ≤ count) × (total + count_from q terms i ≡ length (packed_rows q))
 
-abbrev decreases-loop : tie.decreases-loop
+abbrev decreases-loop : tie.decreases-loop-i
 decreases-loop terms q count total₀ i₀ total i = count - i
 
-loop-holds : tie.Need-loop-init invariant-loop decreases-loop
+loop-holds : tie.Need-loop-i-init invariant-loop decreases-loop
 loop-holds c =
-    let q = c.before.args.t1 in
-    let start = ap (λ t. count_from q t 0) c.before.requires.0 in
+    let q = c.args.t1 in
+    let start = ap (λ t. count_from q t 0) c.requires.0 in
     (search rules, omega (arith, start, packed_count q))
 
 -- the rows of the statement at a turn are some of those left
-turned : (c : tie.After-row-count invariant-loop decreases-loop) → let l = c.before.before.before in let a = l.before.before.args in
-    count_from a.t1 a.terms l.loop.i ≡ c.row_count.result + count_from a.t1 a.terms (l.loop.i + 1)
+turned : (c : tie.After-row_count-total invariant-loop decreases-loop) → let l = c in let a = l.args in
+    count_from a.t1 a.terms l.loop-i.i ≡ c.row_count-total.result + count_from a.t1 a.terms (l.loop-i.i + 1)
 turned c =
-    let l = c.before.before.before in
-    let a = l.before.before.args in
-    count_turn a.t1 a.terms l.loop.i idle (omega (arith, c.before.before.loop-test.true, l.before.statement-count.ensures.0))
-    ∙ ap (λ n. n + count_from a.t1 a.terms (l.loop.i + 1)) (sym c.row_count.ensures)
+    let l = c in
+    let a = l.args in
+    count_turn a.t1 a.terms l.loop-i.i idle (omega (arith, c.loop-i-test.true, l.statement_count-count.ensures.0))
+    ∙ ap (λ n. n + count_from a.t1 a.terms (l.loop-i.i + 1)) (sym c.row_count-total.ensures)
 
-add_total : tie.Need-overflow-add-total invariant-loop decreases-loop
+add_total : tie.Need-overflow_add-total invariant-loop decreases-loop
 add_total c =
-    let l = c.before.before.before in
-    let e = l.before.before in
-    let stated = l.before.statement-count.ensures in
-    omega (arith, turned c, l.loop.invariant.1, packed_few e.args.t1 (omega (arith, stated.0, stated.1)) (omega (arith, e.requires.0, e.requires.1)))
+    let l = c in
+    let e = l in
+    let stated = l.statement_count-count.ensures in
+    omega (arith, turned c, l.loop-i.invariant.1, packed_few e.args.t1 (omega (arith, stated.0, stated.1)) (omega (arith, e.requires.0, e.requires.1)))
 
-loop-again : tie.Need-loop-preserved invariant-loop decreases-loop
+loop-again : tie.Need-loop-i-preserved invariant-loop decreases-loop
 loop-again c =
-    let l = c.before.before.before in
-    (omega arith, omega (arith, turned c, l.loop.invariant.1))
+    let l = c in
+    (omega arith, omega (arith, turned c, l.loop-i.invariant.1))
 
 returns : tie.Need-returns invariant-loop decreases-loop
 returns c =
-    let l = c.before in
-    let a = l.before.before.args in
-    omega (arith, l.loop.invariant.1, count_end a.t1 a.terms l.loop.i (omega (arith, c.loop-test.false, l.before.statement-count.ensures.0)))
+    let l = c in
+    let a = l.args in
+    omega (arith, l.loop-i.invariant.1, count_end a.t1 a.terms l.loop-i.i (omega (arith, c.loop-i-test.false, l.statement_count-count.ensures.0)))
 
 pub count_rows_spec : {M : Type 1} → statement M
 count_rows_spec =

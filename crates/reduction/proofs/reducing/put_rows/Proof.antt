@@ -15,78 +15,78 @@ use Rattle.reduction.proofs.ReducingLaws.{rows_from, from_turn, from_end, packed
 use Rattle.reduction.proofs.reducing.put_rows.Statement.{statement}
 use Rattle.reduction.proofs.reducing.put_rows.Tie as tie
 
-abbrev invariant-loop : tie.invariant-loop
+abbrev invariant-loop : tie.invariant-loop-i
 invariant-loop terms rows₀ q stated elements witness₀ at₀ i₀ rows w at i = (i ≤ stated) × (w ≤ elements + i) × Run (packed_rows q) rows₀ (rows_from q terms i w) rows at
 
-abbrev decreases-loop : tie.decreases-loop
+abbrev decreases-loop : tie.decreases-loop-i
 decreases-loop terms rows₀ q stated elements witness₀ at₀ i₀ rows w at i = stated - i
 
-loop-holds : tie.Need-loop-init invariant-loop decreases-loop
+loop-holds : tie.Need-loop-i-init invariant-loop decreases-loop
 loop-holds c =
-    let a = c.before.before.args in
-    let all_left = packed_from a.t1 ∙ ap (λ t. rows_from a.t1 t 0 a.t1.elements) (sym c.before.before.requires.0) in
+    let a = c.args in
+    let all_left = packed_from a.t1 ∙ ap (λ t. rows_from a.t1 t 0 a.t1.elements) (sym c.requires.0) in
     (search rules, search rules, subst (λ rest. Run (packed_rows a.t1) a.rows.now rest a.rows.now 0) all_left (run_start (packed_rows a.t1) a.rows.now))
 
 -- at a turn the rows of the next statement come first of those left
-turned : (c : tie.In-loop invariant-loop decreases-loop) →
-    let l = c.before in let a = l.before.before.before.args in let s = (get_or a.t1.table l.loop.i idle).statement in
-    Run (packed_rows a.t1) a.rows.now (statement_rows a.terms l.loop.witness s ++ rows_from a.t1 a.terms (l.loop.i + 1) (l.loop.witness + witness s)) l.loop.rows l.loop.at
+turned : (c : tie.In-loop-i invariant-loop decreases-loop) →
+    let l = c in let a = l.args in let s = (get_or a.t1.table l.loop-i.i idle).statement in
+    Run (packed_rows a.t1) a.rows.now (statement_rows a.terms l.loop-i.witness s ++ rows_from a.t1 a.terms (l.loop-i.i + 1) (l.loop-i.witness + witness s)) l.loop-i.rows l.loop-i.at
 turned c =
-    let l = c.before in
-    let a = l.before.before.before.args in
-    subst (λ rest. Run (packed_rows a.t1) a.rows.now rest l.loop.rows l.loop.at)
-    (from_turn a.t1 a.terms l.loop.i l.loop.witness idle (omega (arith, c.loop-test.true, l.before.statement-count.ensures.0)))
-    l.loop.invariant.2
+    let l = c in
+    let a = l.args in
+    subst (λ rest. Run (packed_rows a.t1) a.rows.now rest l.loop-i.rows l.loop-i.at)
+    (from_turn a.t1 a.terms l.loop-i.i l.loop-i.witness idle (omega (arith, c.loop-i-test.true, l.statement_count-stated.ensures.0)))
+    l.loop-i.invariant.2
 
 -- so they fit behind those written
-room : (c : tie.In-loop invariant-loop decreases-loop) →
-    let l = c.before in let a = l.before.before.before.args in
-    (length l.loop.rows ≡ length a.rows.now) × (l.loop.at + length (statement_rows a.terms l.loop.witness (get_or a.t1.table l.loop.i idle).statement) ≤ length a.rows.now)
+room : (c : tie.In-loop-i invariant-loop decreases-loop) →
+    let l = c in let a = l.args in
+    (length l.loop-i.rows ≡ length a.rows.now) × (l.loop-i.at + length (statement_rows a.terms l.loop-i.witness (get_or a.t1.table l.loop-i.i idle).statement) ≤ length a.rows.now)
 room c =
-    let l = c.before in
-    let a = l.before.before.before.args in
-    let s = (get_or a.t1.table l.loop.i idle).statement in
-    let fits = run_room (turned c) l.before.before.before.requires.2 in
-    (fits.0, omega (arith, fits.1, length-append (statement_rows a.terms l.loop.witness s) (rows_from a.t1 a.terms (l.loop.i + 1) (l.loop.witness + witness s)), l.before.before.before.requires.2))
+    let l = c in
+    let a = l.args in
+    let s = (get_or a.t1.table l.loop-i.i idle).statement in
+    let fits = run_room (turned c) l.requires.2 in
+    (fits.0, omega (arith, fits.1, length-append (statement_rows a.terms l.loop-i.witness s) (rows_from a.t1 a.terms (l.loop-i.i + 1) (l.loop-i.witness + witness s)), l.requires.2))
 
 -- the next witness has a number of one byte
-small : (c : tie.In-loop invariant-loop decreases-loop) → c.before.loop.witness < 256
+small : (c : tie.In-loop-i invariant-loop decreases-loop) → c.loop-i.witness < 256
 small c =
-    let l = c.before in
-    let e = l.before.before.before in
-    omega (arith, l.loop.invariant.1, terms_start e.args.t1, e.requires.0, e.requires.1, l.before.statement-count.ensures.1, c.loop-test.true)
+    let l = c in
+    let e = l in
+    omega (arith, l.loop-i.invariant.1, terms_start e.args.t1, e.requires.0, e.requires.1, l.statement_count-stated.ensures.1, c.loop-i-test.true)
 
-few : (c : tie.After-witness-of invariant-loop decreases-loop) → c.witness-of.result ≤ 1
-few c = rw c.witness-of.ensures (witness_small _)
+few : (c : tie.After-witness_of invariant-loop decreases-loop) → c.witness_of.result ≤ 1
+few c = rw c.witness_of.ensures (witness_small _)
 
-put-statement-requires : tie.Need-put-statement-requires invariant-loop decreases-loop
+put-statement-requires : tie.Need-put_statement-at-requires invariant-loop decreases-loop
 put-statement-requires c κs =
-    let e = c.before.before.before.before.before.before.before in
+    let e = c in
     let fits = room c.before.before.before in
     (e.requires.1, simp (length-take, length-drop) (omega (arith, fits.0, fits.1)), small c.before.before.before)
 
-add_at : tie.Need-overflow-add-at invariant-loop decreases-loop
-add_at c = let fits = room c.before.before.before.before.before.before in omega (arith, c.before.before.put-statement.ensures.0, fits.0, fits.1)
+add_at : tie.Need-overflow_add-at invariant-loop decreases-loop
+add_at c = let fits = room c.before.before.before.before.before.before in omega (arith, c.put_statement-at.ensures.0, fits.0, fits.1)
 
-loop-again : tie.Need-loop-preserved invariant-loop decreases-loop
+loop-again : tie.Need-loop-i-preserved invariant-loop decreases-loop
 loop-again c =
-    let l = c.before.before.before.before.before.before.before in
-    let a = l.before.before.before.args in
-    let put = c.before.before.put-statement in
-    let own = c.before.before.before.before.witness-of in
-    let s = (get_or a.t1.table l.loop.i idle).statement in
-    let rest : ℕ → List ℕ = λ v. rows_from a.t1 a.terms (l.loop.i + 1) (l.loop.witness + v) in (
+    let l = c in
+    let a = l.args in
+    let put = c.put_statement-at in
+    let own = c.witness_of in
+    let s = (get_or a.t1.table l.loop-i.i idle).statement in
+    let rest : ℕ → List ℕ = λ v. rows_from a.t1 a.terms (l.loop-i.i + 1) (l.loop-i.witness + v) in (
       omega arith,
-      omega (arith, l.loop.invariant.1, few c.before.before.before.before),
-      run_next (statement_rows a.terms l.loop.witness s) (rest (witness s)) (rest own.result) put.new.1.1.1.0 put.result
+      omega (arith, l.loop-i.invariant.1, few c.before.before.before.before),
+      run_next (statement_rows a.terms l.loop-i.witness s) (rest (witness s)) (rest own.result) put.new.1.1.1.0 put.result
           (turned c.before.before.before.before.before.before) put.ensures.1 put.ensures.0 (ap rest own.ensures),
     )
 
 returns : tie.Need-returns invariant-loop decreases-loop
 returns c =
-    let l = c.before in
-    let a = l.before.before.before.args in
-    (run_end (subst (λ rest. Run (packed_rows a.t1) a.rows.now rest l.loop.rows l.loop.at) (from_end a.t1 a.terms l.loop.i l.loop.witness (omega (arith, c.loop-test.false, l.before.statement-count.ensures.0))) l.loop.invariant.2)).1
+    let l = c in
+    let a = l.args in
+    (run_end (subst (λ rest. Run (packed_rows a.t1) a.rows.now rest l.loop-i.rows l.loop-i.at) (from_end a.t1 a.terms l.loop-i.i l.loop-i.witness (omega (arith, c.loop-i-test.false, l.statement_count-stated.ensures.0))) l.loop-i.invariant.2)).1
 
 pub put_rows_spec : {M : Type 1} → statement M
 put_rows_spec =
@@ -110,5 +110,5 @@ put_rows_spec =
     (λ c. search rules)
     (λ c. search rules)
     loop-again
-    (λ c. (run_room c.before.loop.invariant.2 c.before.before.before.before.requires.2).0)
+    (λ c. (run_room c.loop-i.invariant.2 c.requires.2).0)
     returns)

@@ -5,18 +5,18 @@ use Rattle.reduction.proofs.TableRows.{refused, as_table}
 use Rattle.reduction.proofs.reducing.reduce.Statement.{statement}
 use Rattle.reduction.proofs.reducing.reduce.Tie as tie
 
-returns : tie.Need-returns
+returns : tie.Need-returns-in-Refused
 returns c =
-    let e = c.before.before.before.before.before in
-    let left = refused e.args.q e.args.rows.now _ (sym c.before.before.before.check.ensures ∙ c.before.table.given.1) in
+    let e = c in
+    let left = refused e.args.q e.args.rows.now _ (sym c.check-table.ensures ∙ c.in-Refused.is) in
     (sym left.0, sym left.1)
 
-returns-2 : tie.Need-returns-2
+returns-2 : tie.Need-returns-in-Accepted
 returns-2 c =
-    let k = c.before.before.before.before.before.before in
-    let a = k.before.before.args in
-    let w = c.before.before.write-rows.ensures in
-    let same = as_table a.q a.rows.now (sym k.check.ensures ∙ c.before.before.before.before.enum_told.given.1) in
+    let k = c in
+    let a = k.args in
+    let w = c.write_rows.ensures in
+    let same = as_table a.q a.rows.now (sym k.check-table.ensures ∙ c.in-Accepted.is) in
     (w.0 ∙ sym same.0, w.1 ∙ sym same.1)
 
 pub reduce_spec : {M : Type 1} → statement M

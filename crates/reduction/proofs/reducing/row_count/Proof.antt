@@ -5,38 +5,38 @@ use Rattle.reduction.proofs.WritingLaws.{each_length, rows_written}
 use Rattle.reduction.proofs.reducing.row_count.Statement.{statement}
 use Rattle.reduction.proofs.reducing.row_count.Tie as tie
 
-returns : tie.Need-returns
-returns c = rw (rows_written c.before.before.args.terms 0 c.before.before.args.s, c.enum_told.given.1)
+returns : tie.Need-returns-in-ElementsEqual
+returns c = rw (rows_written c.args.terms 0 c.args.s, c.in-ElementsEqual.is)
 
-returns-2 : tie.Need-returns-2
-returns-2 c = rw (rows_written c.before.before.args.terms 0 c.before.before.args.s, c.enum-told2.given.1)
+returns-2 : tie.Need-returns-in-ElementsDiffer
+returns-2 c = rw (rows_written c.args.terms 0 c.args.s, c.in-ElementsDiffer.is)
 
-returns-3 : tie.Need-returns-3
-returns-3 c = rw (rows_written c.before.before.args.terms 0 c.before.before.args.s, c.enum-told3.given.1)
+returns-3 : tie.Need-returns-in-In
+returns-3 c = rw (rows_written c.args.terms 0 c.args.s, c.in-In.is)
 
-returns-4 : tie.Need-returns-4
-returns-4 c = rw (rows_written c.before.before.args.terms 0 c.before.before.args.s, c.enum-told4.given.1)
+returns-4 : tie.Need-returns-in-NotIn
+returns-4 c = rw (rows_written c.args.terms 0 c.args.s, c.in-NotIn.is)
 
-returns-5 : tie.Need-returns-5
-returns-5 c = rw (rows_written c.before.before.args.terms 0 c.before.before.args.s, c.enum-told5.given.1) (sym (each_length _ _ _ _ c.before.before.args.terms))
+returns-5 : tie.Need-returns-in-SetsEqual
+returns-5 c = rw (rows_written c.args.terms 0 c.args.s, c.in-SetsEqual.is) (sym (each_length _ _ _ _ c.args.terms))
 
-returns-6 : tie.Need-returns-6
-returns-6 c = rw (rows_written c.before.before.args.terms 0 c.before.before.args.s, c.enum-told6.given.1)
+returns-6 : tie.Need-returns-in-SetsDiffer
+returns-6 c = rw (rows_written c.args.terms 0 c.args.s, c.in-SetsDiffer.is)
 
-returns-7 : tie.Need-returns-7
-returns-7 c = rw (rows_written c.before.before.args.terms 0 c.before.before.args.s, c.enum-told7.given.1) (sym (each_length _ _ _ _ c.before.before.args.terms))
+returns-7 : tie.Need-returns-in-Empty
+returns-7 c = rw (rows_written c.args.terms 0 c.args.s, c.in-Empty.is) (sym (each_length _ _ _ _ c.args.terms))
 
-returns-8 : tie.Need-returns-8
-returns-8 c = rw (rows_written c.before.before.args.terms 0 c.before.before.args.s, c.enum-told8.given.1) (sym (each_length _ _ _ _ c.before.before.args.terms))
+returns-8 : tie.Need-returns-in-Single
+returns-8 c = rw (rows_written c.args.terms 0 c.args.s, c.in-Single.is) (sym (each_length _ _ _ _ c.args.terms))
 
-returns-9 : tie.Need-returns-9
-returns-9 c = rw (rows_written c.before.before.args.terms 0 c.before.before.args.s, c.enum-told9.given.1) (sym (each_length _ _ _ _ c.before.before.args.terms))
+returns-9 : tie.Need-returns-in-Union
+returns-9 c = rw (rows_written c.args.terms 0 c.args.s, c.in-Union.is) (sym (each_length _ _ _ _ c.args.terms))
 
-returns-10 : tie.Need-returns-10
-returns-10 c = rw (rows_written c.before.before.args.terms 0 c.before.before.args.s, c.enum-told10.given.1) (sym (each_length _ _ _ _ c.before.before.args.terms))
+returns-10 : tie.Need-returns-in-Intersection
+returns-10 c = rw (rows_written c.args.terms 0 c.args.s, c.in-Intersection.is) (sym (each_length _ _ _ _ c.args.terms))
 
-returns-11 : tie.Need-returns-11
-returns-11 c = rw (rows_written c.before.before.args.terms 0 c.before.before.args.s, c.enum-told11.given.1) (sym (each_length _ _ _ _ c.before.before.args.terms))
+returns-11 : tie.Need-returns-in-Difference
+returns-11 c = rw (rows_written c.args.terms 0 c.args.s, c.in-Difference.is) (sym (each_length _ _ _ _ c.args.terms))
 
 pub row_count_spec : {M : Type 1} → statement M
 row_count_spec =

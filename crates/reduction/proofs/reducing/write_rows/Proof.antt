@@ -10,28 +10,28 @@ use Rattle.reduction.proofs.TableRows.{many, short, whole}
 use Rattle.reduction.proofs.reducing.write_rows.Statement.{statement}
 use Rattle.reduction.proofs.reducing.write_rows.Tie as tie
 
-returns : tie.Need-returns
+returns : tie.Need-returns-then-n-gt-MAX_TERMS
 returns c =
-    let a = c.before.before.before.before.args in
-    let left = many a.q a.rows.now (omega (arith, c.before.before.terms.ensures, c.before.if1.true)) in
+    let a = c.args in
+    let left = many a.q a.rows.now (omega (arith, c.terms-n.ensures, c.if-n-gt-MAX_TERMS.true)) in
     (ap Refused c.new.ensures ∙ sym left.0, sym left.1)
 
-returns-2 : tie.Need-returns-2
+returns-2 : tie.Need-returns-then-rows-count
 returns-2 c =
-    let t = c.before.before.before.before in
-    let a = t.before.before.args in
-    let few : terms_of a.q ≤ max_terms = omega (arith, t.terms.ensures, c.before.before.before.if1.false) in
-    let left = short a.q a.rows.now few (omega (arith, c.before.before.count-rows.ensures, c.before.if2.true)) in
-    (ap Refused c.new2.ensures ∙ sym left.0, sym left.1)
+    let t = c in
+    let a = t.args in
+    let few : terms_of a.q ≤ max_terms = omega (arith, t.terms-n.ensures, c.if-n-gt-MAX_TERMS.false) in
+    let left = short a.q a.rows.now few (omega (arith, c.count_rows-count.ensures, c.if-rows-count.true)) in
+    (ap Refused c.new-then-rows-count.ensures ∙ sym left.0, sym left.1)
 
-returns-3 : tie.Need-returns-3
+returns-3 : tie.Need-returns
 returns-3 c =
-    let n = c.before.before.before.before.before in
-    let t = n.before.before in
-    let a = t.before.before.args in
-    let few : terms_of a.q ≤ max_terms = omega (arith, t.terms.ensures, n.before.if1.false) in
-    let left = whole a.q a.rows.now few (omega (arith, n.count-rows.ensures, c.before.before.before.before.if2.false)) in
-    (ap Count n.count-rows.ensures ∙ sym left.0, c.before.before.put-rows.ensures ∙ sym left.1)
+    let n = c in
+    let t = n in
+    let a = t.args in
+    let few : terms_of a.q ≤ max_terms = omega (arith, t.terms-n.ensures, n.if-n-gt-MAX_TERMS.false) in
+    let left = whole a.q a.rows.now few (omega (arith, n.count_rows-count.ensures, c.if-rows-count.false)) in
+    (ap Count n.count_rows-count.ensures ∙ sym left.0, c.put_rows.ensures ∙ sym left.1)
 
 pub write_rows_spec : {M : Type 1} → statement M
 write_rows_spec =

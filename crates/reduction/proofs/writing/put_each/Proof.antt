@@ -12,31 +12,31 @@ use Rattle.reduction.proofs.WritingLaws.{each_length, each_at}
 use Rattle.reduction.proofs.writing.put_each.Statement.{statement}
 use Rattle.reduction.proofs.writing.put_each.Tie as tie
 
-abbrev invariant-loop : tie.invariant-loop
+abbrev invariant-loop : tie.invariant-loop-c
 invariant-loop kind first second third terms rows₀ c₀ rows c = (c ≤ terms) × (length rows ≡ length rows₀) × (rows ≡ over (take c (each_term kind first second third terms)) rows₀)
 
-abbrev decreases-loop : tie.decreases-loop
+abbrev decreases-loop : tie.decreases-loop-c
 decreases-loop kind first second third terms rows₀ c₀ rows c = terms - c
 
-loop-again : tie.Need-loop-preserved invariant-loop decreases-loop
+loop-again : tie.Need-loop-c-preserved invariant-loop decreases-loop
 loop-again c =
-    let l = c.before.before in
-    let a = l.before.before.args in
+    let l = c in
+    let a = l.args in
     let all = each_term a.kind a.first a.second a.third a.terms in
     let long = each_length a.kind a.first a.second a.third a.terms in
-    let value = c.pack.ensures ∙ sym (each_at a.kind a.first a.second a.third a.terms l.loop.c c.before.loop-test.true) in (
+    let value = c.pack.ensures ∙ sym (each_at a.kind a.first a.second a.third a.terms l.loop-c.c c.loop-c-test.true) in (
       omega arith,
-      length-set l.loop.rows l.loop.c c.pack.result ∙ l.loop.invariant.1,
-      copied_in all a.rows.now l.loop.rows l.loop.c c.pack.result (omega (arith, long)) (omega arith) l.loop.invariant.2 value,
+      length-set l.loop-c.rows l.loop-c.c c.pack.result ∙ l.loop-c.invariant.1,
+      copied_in all a.rows.now l.loop-c.rows l.loop-c.c c.pack.result (omega (arith, long)) (omega arith) l.loop-c.invariant.2 value,
     )
 
 returns : tie.Need-returns invariant-loop decreases-loop
 returns c =
-    let l = c.before in
-    let a = l.before.before.args in
+    let l = c in
+    let a = l.args in
     let all = each_term a.kind a.first a.second a.third a.terms in
     let long = each_length a.kind a.first a.second a.third a.terms in
-    (omega arith, l.loop.invariant.2 ∙ ap (λ b. over b a.rows.now) (take_all l.loop.c all (omega (arith, long))))
+    (omega arith, l.loop-c.invariant.2 ∙ ap (λ b. over b a.rows.now) (take_all l.loop-c.c all (omega (arith, long))))
 
 pub put_each_spec : {M : Type 1} → statement M
 put_each_spec =

@@ -10,25 +10,25 @@ use Rattle.row.proofs.CheckLaws.{check_from, turn, ended}
 use Rattle.row.proofs.checks.check_each.Statement.{statement}
 use Rattle.row.proofs.checks.check_each.Tie as tie
 
-abbrev invariant-loop : tie.invariant-loop
+abbrev invariant-loop : tie.invariant-loop-i
 invariant-loop rows terms sets i₀ i = (i ≤ length rows) × (check_from terms sets rows 0 ≡ check_from terms sets rows i)
 
-abbrev decreases-loop : tie.decreases-loop
+abbrev decreases-loop : tie.decreases-loop-i
 decreases-loop rows terms sets i₀ i = length rows - i
 
-returns : tie.Need-returns invariant-loop decreases-loop
+returns : tie.Need-returns-then-not-row_good invariant-loop decreases-loop
 returns c =
-    let l = c.before.before.before.before.before in
-    let a = l.before.before.args in
-    let bad = sym c.before.before.row-good.ensures ∙ not-true c.before.before.row-good.result c.before.if1.true in
-    ap Refused c.new.ensures ∙ sym (l.loop.invariant.1 ∙ (rw bad at (turn a.terms a.sets a.rows.now l.loop.i c.before.before.before.before.loop-test.true)))
+    let l = c in
+    let a = l.args in
+    let bad = sym c.row_good.ensures ∙ not-true c.row_good.result c.if-not-row_good.true in
+    ap Refused c.new.ensures ∙ sym (l.loop-i.invariant.1 ∙ (rw bad at (turn a.terms a.sets a.rows.now l.loop-i.i c.loop-i-test.true)))
 
-loop-again : tie.Need-loop-preserved invariant-loop decreases-loop
+loop-again : tie.Need-loop-i-preserved invariant-loop decreases-loop
 loop-again c =
-    let l = c.before.before.before.before in
-    let a = l.before.before.args in
-    let good = sym c.before.row-good.ensures ∙ not-false c.before.row-good.result c.if1.false in
-    (omega arith, l.loop.invariant.1 ∙ (rw good at (turn a.terms a.sets a.rows.now l.loop.i c.before.before.before.loop-test.true)))
+    let l = c in
+    let a = l.args in
+    let good = sym c.row_good.ensures ∙ not-false c.row_good.result c.if-not-row_good.false in
+    (omega arith, l.loop-i.invariant.1 ∙ (rw good at (turn a.terms a.sets a.rows.now l.loop-i.i c.loop-i-test.true)))
 
 pub check_each_spec : {M : Type 1} → statement M
 check_each_spec =
@@ -45,4 +45,4 @@ check_each_spec =
     (λ c. search rules)
     (λ c. search rules)
     loop-again
-    (λ c. sym (c.before.loop.invariant.1 ∙ ended _ _ c.before.before.before.args.rows.now c.before.loop.i c.loop-test.false)))
+    (λ c. sym (c.loop-i.invariant.1 ∙ ended _ _ c.args.rows.now c.loop-i.i c.loop-i-test.false)))

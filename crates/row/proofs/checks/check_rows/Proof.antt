@@ -8,25 +8,25 @@ use Rattle.row.specs.Checks.{rows_checked}
 use Rattle.row.proofs.checks.check_rows.Statement.{statement}
 use Rattle.row.proofs.checks.check_rows.Tie as tie
 
-returns : tie.Need-returns
+returns : tie.Need-returns-then-terms-gt-MAX_TERMS
 unfolding rows_checked
-returns c = ap Refused c.new.ensures ∙ sym (simp (lt-ltb max_terms _ c.before.if1.true))
+returns c = ap Refused c.new.ensures ∙ sym (simp (lt-ltb max_terms _ c.if-terms-gt-MAX_TERMS.true))
 
-returns-2 : tie.Need-returns-2
+returns-2 : tie.Need-returns-then-sets-gt-MAX_SETS
 unfolding rows_checked
-returns-2 c = ap Refused c.new2.ensures ∙ sym (simp (le-ltb max_terms _ c.before.before.if1.false, lt-ltb max_sets _ c.before.if2.true))
+returns-2 c = ap Refused c.new-then-sets-gt-MAX_SETS.ensures ∙ sym (simp (le-ltb max_terms _ c.if-terms-gt-MAX_TERMS.false, lt-ltb max_sets _ c.if-sets-gt-MAX_SETS.true))
 
-returns-3 : tie.Need-returns-3
+returns-3 : tie.Need-returns-then-rows-gt-MAX_ROWS
 unfolding rows_checked
 returns-3 c =
-    ap Refused c.new3.ensures
-    ∙ sym (simp (le-ltb max_terms _ c.before.before.before.if1.false, le-ltb max_sets _ c.before.before.if2.false, lt-ltb max_rows _ c.before.if3.true))
+    ap Refused c.new-then-rows-gt-MAX_ROWS.ensures
+    ∙ sym (simp (le-ltb max_terms _ c.if-terms-gt-MAX_TERMS.false, le-ltb max_sets _ c.if-sets-gt-MAX_SETS.false, lt-ltb max_rows _ c.if-rows-gt-MAX_ROWS.true))
 
-returns-4 : tie.Need-returns-4
+returns-4 : tie.Need-returns
 unfolding rows_checked
 returns-4 c =
-    c.check-each.ensures
-    ∙ sym (simp (le-ltb max_terms _ c.before.before.before.if1.false, le-ltb max_sets _ c.before.before.if2.false, le-ltb max_rows _ c.before.if3.false))
+    c.check_each.ensures
+    ∙ sym (simp (le-ltb max_terms _ c.if-terms-gt-MAX_TERMS.false, le-ltb max_sets _ c.if-sets-gt-MAX_SETS.false, le-ltb max_rows _ c.if-rows-gt-MAX_ROWS.false))
 
 pub check_rows_spec : {M : Type 1} → statement M
 check_rows_spec = tie.close (tie.spec (λ c κs. search rules) returns (λ c κs. search rules) returns-2 (λ c κs. search rules) returns-3 (λ c κs. search rules) returns-4)

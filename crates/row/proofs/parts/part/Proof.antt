@@ -11,7 +11,7 @@ use Rattle.row.proofs.parts.part.Tie as tie
 word : (c : tie.Start) → c.args.bits < 32
 word c = omega (arith, c.requires.1)
 
-cast_result : tie.Need-overflow-cast-result
+cast_result : tie.Need-overflow_cast-result
 cast_result c =
     let n = c.args.n / 2 ^ c.args.at in
     let small : n % 2 ^ c.args.bits < 2 ^ 8 = lt_of_lt_of_le (mod-lt n (pow_pos c.args.bits)) (pow_mono c.requires.1) in

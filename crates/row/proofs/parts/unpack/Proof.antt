@@ -8,7 +8,7 @@ use Rattle.row.proofs.parts.unpack.Tie as tie
 returns : tie.Need-returns
 unfolding parts_of
 returns c =
-    simp (c.before.before.before.before.part.ensures, c.before.before.before.part2.ensures, c.before.before.part3.ensures, c.before.part4.ensures, c.part5.ensures, div-one)
+    simp (c.part.ensures, c.part-2.ensures, c.part-3.ensures, c.part-4.ensures, c.part-5.ensures, div-one)
 
 pub unpack_spec : {M : Type 1} → statement M
 unpack_spec = tie.close (tie.spec (λ c κs. search rules) (λ c κs. search rules) (λ c κs. search rules) (λ c κs. search rules) (λ c κs. search rules) returns)

@@ -9,15 +9,15 @@ use Rattle.sayfudhoum.proofs.exports.sayfudhoum_clash.Tie as tie
 returns : tie.Need-returns
 unfolding clash_number
 returns c =
-    let w = c.before.before.before.before.before.before.before.clash-file.ensures in
-    (c.clash-number.ensures ∙ ap clashed_number w.0, w.1)
+    let w = c.clash_file-written.ensures in
+    (c.clash_number.ensures ∙ ap clashed_number w.0, w.1)
 
 pub sayfudhoum_clash_spec : {M : Type 1} → statement M
 sayfudhoum_clash_spec =
     tie.close
     (tie.spec
     (λ c κs. search rules)
-    (λ c κs. subst IsFew (sym c.before.before.before.before.before.before.clash-file.ensures.0) (clash_few _ _))
+    (λ c κs. subst IsFew (sym c.clash_file-written.ensures.0) (clash_few _ _))
     (λ c. search rules)
     (λ c. search rules)
     (λ c. search rules)

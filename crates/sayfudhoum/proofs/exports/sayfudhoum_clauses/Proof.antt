@@ -9,14 +9,14 @@ use Rattle.sayfudhoum.proofs.exports.sayfudhoum_clauses.Tie as tie
 returns : tie.Need-returns
 unfolding clauses_number
 returns c =
-    let w = c.before.before.before.clauses-file.ensures in
-    (c.written-number.ensures ∙ ap written_number w.0, w.1)
+    let w = c.clauses_file-written.ensures in
+    (c.written_number.ensures ∙ ap written_number w.0, w.1)
 
 pub sayfudhoum_clauses_spec : {M : Type 1} → statement M
 sayfudhoum_clauses_spec =
     tie.close
     (tie.spec
     (λ c κs. search rules)
-    (λ c κs. subst IsShort (sym c.before.before.clauses-file.ensures.0) (clauses_short _ _))
+    (λ c κs. subst IsShort (sym c.clauses_file-written.ensures.0) (clauses_short _ _))
     (λ c. search rules)
     returns)

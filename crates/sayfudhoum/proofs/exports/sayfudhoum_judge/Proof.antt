@@ -8,12 +8,12 @@ use Rattle.sayfudhoum.proofs.exports.sayfudhoum_judge.Tie as tie
 
 returns : tie.Need-returns
 unfolding judge_number
-returns c = c.judgement-number.ensures ∙ ap judgement_number c.before.judge-file.ensures
+returns c = c.judgement_number.ensures ∙ ap judgement_number c.judge_file-judgement.ensures
 
 pub sayfudhoum_judge_spec : {M : Type 1} → statement M
 sayfudhoum_judge_spec =
     tie.close
     (tie.spec
     (λ c κs. search rules)
-    (λ c κs. subst IsIndexed (sym c.judge-file.ensures) (judged_indexed _ _))
+    (λ c κs. subst IsIndexed (sym c.judge_file-judgement.ensures) (judged_indexed _ _))
     returns)

@@ -9,14 +9,14 @@ use Rattle.sayfudhoum.proofs.exports.sayfudhoum_solved.Tie as tie
 returns : tie.Need-returns
 unfolding solved_number
 returns c =
-    let w = c.before.before.before.solve-file.ensures in
-    (c.solved-number.ensures ∙ ap as_number w.0, w.1)
+    let w = c.solve_file-solved.ensures in
+    (c.solved_number.ensures ∙ ap as_number w.0, w.1)
 
 pub sayfudhoum_solved_spec : {M : Type 1} → statement M
 sayfudhoum_solved_spec =
     tie.close
     (tie.spec
     (λ c κs. search rules)
-    (λ c κs. subst IsBrief (sym c.before.before.solve-file.ensures.0) (solved_brief _ _ _))
+    (λ c κs. subst IsBrief (sym c.solve_file-solved.ensures.0) (solved_brief _ _ _))
     (λ c. search rules)
     returns)

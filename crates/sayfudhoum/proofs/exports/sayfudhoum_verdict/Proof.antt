@@ -8,12 +8,12 @@ use Rattle.sayfudhoum.proofs.exports.sayfudhoum_verdict.Tie as tie
 
 returns : tie.Need-returns
 unfolding verdict_number
-returns c = c.outcome-number.ensures ∙ ap decision_number c.before.before.decide-file.ensures
+returns c = c.outcome_number.ensures ∙ ap decision_number c.decide_file-decision.ensures
 
 pub sayfudhoum_verdict_spec : {M : Type 1} → statement M
 sayfudhoum_verdict_spec =
     tie.close
     (tie.spec
     (λ c κs. search rules)
-    (λ c κs. subst (λ d. IsSmall d.outcome) (sym c.before.decide-file.ensures) (decided_small _))
+    (λ c κs. subst (λ d. IsSmall d.outcome) (sym c.decide_file-decision.ensures) (decided_small _))
     returns)

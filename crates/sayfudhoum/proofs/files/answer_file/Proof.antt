@@ -7,19 +7,19 @@ use Rattle.sayfudhoum.proofs.FileLaws.{refused_answered, refused_over, question_
 use Rattle.sayfudhoum.proofs.files.answer_file.Statement.{statement}
 use Rattle.sayfudhoum.proofs.files.answer_file.Tie as tie
 
-returns : tie.Need-returns
+returns : tie.Need-returns-in-Refused
 returns c =
-    let read = c.before.before.before.read-question.ensures in
-    let told = c.before.outcome.given.1 in
-    let old = c.before.before.before.before.before.before.args.buf.now in
+    let read = c.read_question-file.ensures in
+    let told = c.in-Refused.is in
+    let old = c.args.buf.now in
     (sym (refused_answered _ _ read _ told (length old)), sym (refused_over _ _ read _ told old))
 
-returns-2 : tie.Need-returns-2
+returns-2 : tie.Need-returns-in-Accepted
 returns-2 c =
-    let read = c.before.before.before.before.before.before.before.read-question.ensures in
-    let told = c.before.before.before.before.before.enum_told.given.1 in
-    let old = c.before.before.before.before.before.before.before.before.before.before.args.buf.now in
-    let w = c.before.before.answer-question.ensures in
+    let read = c.read_question-file.ensures in
+    let told = c.in-Accepted.is in
+    let old = c.args.buf.now in
+    let w = c.answer_question.ensures in
     let a = answered_accepted _ old (question_checked _ _ read told) in
     (w.0 ∙ a.0 ∙ sym (accepted_answered _ _ read told (length old)), w.1 ∙ a.1 ∙ sym (accepted_over _ _ read told old))
 

@@ -14,5 +14,5 @@ decide_file_spec =
     (λ c κs. search rules)
     (λ c. search rules)
     (λ c κs. search rules)
-    (λ c. c.refused.ensures ∙ sym (refused_decided _ _ c.before.before.before.before.read-question.ensures _ c.before.before.outcome.given.1))
-    (λ c. c.decide.ensures ∙ sym (accepted_decided _ _ c.before.before.before.before.read-question.ensures c.before.before.enum_told.given.1)))
+    (λ c. c.refused.ensures ∙ sym (refused_decided _ _ c.read_question-read.ensures _ c.in-Refused.is))
+    (λ c. c.decide.ensures ∙ sym (accepted_decided _ _ c.read_question-read.ensures c.in-Accepted.is)))

@@ -17,48 +17,48 @@ use Rattle.sayfudhoum.proofs.files.report.Statement.{statement}
 use Rattle.sayfudhoum.proofs.files.report.Tie as tie
 
 -- the table says that it has nine bytes
-nine : (c : tie.After-field-length2) → c.before.field-length.result + c.field-length2.result ≡ 9
-nine c = omega (arith, c.before.field-length.ensures, c.field-length2.ensures, report_sized)
+nine : (c : tie.After-field_length-2) → c.field_length.result + c.field_length-2.result ≡ 9
+nine c = omega (arith, c.field_length.ensures, c.field_length-2.ensures, report_sized)
 
 returns : tie.Need-returns
 returns c =
-    let a = c.before.before.before.before.before.args in
-    let short = too_short (report_bytes a.refusal) a.buf.now (omega (arith, report_length a.refusal, nine c.before.before, c.before.if1.true)) in
+    let a = c.args in
+    let short = too_short (report_bytes a.refusal) a.buf.now (omega (arith, report_length a.refusal, nine c.before.before.before.before.before.before.before.before.before.before.before.before.before.before, c.if-buf-length.true)) in
     (ap Refused c.new.ensures ∙ sym short.0, sym short.1)
 
 -- there is room for nine
-room : (c : tie.After-put-field-arg2) → 9 ≤ length c.before.before.before.before.before.before.before.before.before.before.before.before.args.buf.now
-room c = omega (arith, nine c.before.before.before.before.before.before.before.before.before, c.before.before.before.before.before.before.before.before.if1.false)
+room : (c : tie.After-put_field-arg-2-1) → 9 ≤ length c.args.buf.now
+room c = omega (arith, nine c.before.before.before.before.before.before.before.before.before, c.if-buf-length.false)
 
 -- field 44 is written
-begun : (c : tie.After-put-field-arg2) → let p = c.before.before.before.put-field in let a = c.before.before.before.before.before.before.before.before.before.before.before.before.args in
+begun : (c : tie.After-put_field-arg-2-1) → let p = c.put_field-first in let a = c.args in
     Run (report_bytes a.refusal) a.buf.now end_bytes p.new.1.1.0 p.result
 begun c =
-    let p = c.before.before.before.put-field in
-    let a = c.before.before.before.before.before.before.before.before.before.before.before.before.args in
+    let p = c.put_field-first in
+    let a = c.args in
     let body = a.refusal.number ∷ a.refusal.place / 256 % 256 ∷ a.refusal.place % 256 ∷ [] in
     let whole = written 0x44 body a.buf.now (omega arith) (omega (arith, room c)) in
     subst (λ l. Run l a.buf.now end_bytes p.new.1.1.0 p.result) (sym (report_body a.refusal)) (run_first (field_bytes 0x44 body) end_bytes (p.ensures.0 ∙ whole.0) (p.ensures.1 ∙ whole.1))
 
 -- 7F fits behind it
-fits : (c : tie.After-put-field-arg2) → let p = c.before.before.before.put-field in let a = c.before.before.before.before.before.before.before.before.before.before.before.before.args in
+fits : (c : tie.After-put_field-arg-2-1) → let p = c.put_field-first in let a = c.args in
     (length p.new.1.1.0 ≡ length a.buf.now) × (p.result + 3 ≤ length p.new.1.1.0)
 fits c =
-    let a = c.before.before.before.before.before.before.before.before.before.before.before.before.args in
+    let a = c.args in
     let r = run_room (begun c) (omega (arith, room c, report_length a.refusal)) in
     (r.0, omega (arith, r.0, r.1, room c, report_length a.refusal))
 
-returns-2 : tie.Need-returns-2
+returns-2 : tie.Need-returns
 returns-2 c =
-    let m = c.before.before.before.before in
-    let f = m.before.before.before.put-field in
-    let a = c.before.before.before.before.before.before.before.before.before.before.before.before.before.before.before.before.args in
+    let m = c in
+    let f = m.put_field-first in
+    let a = c.args in
     let buf = f.new.1.1.0 in
     let part = take (length buf - f.result) (drop f.result buf) in
-    let behind : 3 ≤ length part = simp (length-take, length-drop) (omega (arith, (fits m).1)) in
-    let all = (run_end (run_on end_bytes [] c.before.before.put-field2.new.1.1.0 (begun m) (c.before.before.put-field2.ensures.1 ∙ (written 0x7f [] part (omega arith) (omega arith)).1))).1 in
-    let whole = fits_whole (report_bytes a.refusal) a.buf.now (omega (arith, room m, report_length a.refusal)) in
-    (ap Count (nine c.before.before.before.before.before.before.before.before.before.before.before.before.before ∙ sym (report_length a.refusal)) ∙ sym whole.0, all ∙ sym whole.1)
+    let behind : 3 ≤ length part = simp (length-take, length-drop) (omega (arith, (fits m.before.before.before.before.before).1)) in
+    let all = (run_end (run_on end_bytes [] c.put_field.new.buf (begun m.before.before.before.before.before) (c.put_field.ensures.1 ∙ (written 0x7f [] part (omega arith) (omega arith)).1))).1 in
+    let whole = fits_whole (report_bytes a.refusal) a.buf.now (omega (arith, room m.before.before.before.before.before, report_length a.refusal)) in
+    (ap Count (nine c.before.before.before.before.before.before.before.before.before.before.before.before.before.before ∙ sym (report_length a.refusal)) ∙ sym whole.0, all ∙ sym whole.1)
 
 pub report_spec : {M : Type 1} → statement M
 report_spec =

@@ -9,8 +9,8 @@ use Rattle.sayfudhoum.proofs.NumberLaws.{clash_counts, clash_place}
 use Rattle.sayfudhoum.proofs.numbers.clash_number.Statement.{statement}
 use Rattle.sayfudhoum.proofs.numbers.clash_number.Tie as tie
 
-few : (c : tie.After-known-told) → let w = c.before.written.given.0 in (w.0 ≤ max_place) × (w.1.0 ≤ max_statements) × (w.1.1.0 ≤ max_place)
-few c = clash_counts _ _ _ _ c.before.written.given.1 c.before.before.before.requires
+few : (c : tie.In-Counts) → let w = c.in-Counts in (w.part ≤ max_place) × (w.indexes ≤ max_statements) × (w.answer ≤ max_place)
+few c = clash_counts _ _ _ _ c.in-Counts.is c.requires
 
 pub clash_number_spec : {M : Type 1} → statement M
 clash_number_spec =
@@ -23,6 +23,6 @@ clash_number_spec =
     (λ c. let f = few c in omega (arith, f.0, f.1, f.2))
     (λ c. let f = few c in omega (arith, f.0, f.1, f.2))
     (λ c. search rules)
-    (λ c κs. clash_place _ _ c.before.written2.given.1 c.before.before.before.requires)
-    (λ c. sym (ap clashed_number c.before.written.given.1))
-    (λ c. c.refusal-number.ensures ∙ sym (ap clashed_number c.before.before.written2.given.1)))
+    (λ c κs. clash_place _ _ c.in-Refused.is c.requires)
+    (λ c. sym (ap clashed_number c.in-Counts.is))
+    (λ c. c.refusal_number.ensures ∙ sym (ap clashed_number c.in-Refused.is)))

@@ -9,15 +9,15 @@ use Rattle.sayfudhoum.proofs.NumberLaws.{verdict_small, outcome_place}
 use Rattle.sayfudhoum.proofs.numbers.outcome_number.Statement.{statement}
 use Rattle.sayfudhoum.proofs.numbers.outcome_number.Tie as tie
 
-returns : tie.Need-returns
+returns : tie.Need-returns-in-Accepted
 returns c =
-    let a = c.before.before.before.args in
-    ap (λ v. v * 256) c.verdict-value.ensures ∙ sym (ap (λ o. outcome_number o (verdict_byte a.verdict)) c.before.enum_told.given.1)
+    let a = c.args in
+    ap (λ v. v * 256) c.verdict_value.ensures ∙ sym (ap (λ o. outcome_number o (verdict_byte a.verdict)) c.in-Accepted.is)
 
-returns-2 : tie.Need-returns-2
+returns-2 : tie.Need-returns-in-Refused
 returns-2 c =
-    let a = c.before.before.before.before.args in
-    c.refusal-number.ensures ∙ sym (ap (λ o. outcome_number o (verdict_byte a.verdict)) c.before.before.outcome.given.1)
+    let a = c.args in
+    c.refusal_number.ensures ∙ sym (ap (λ o. outcome_number o (verdict_byte a.verdict)) c.in-Refused.is)
 
 pub outcome_number_spec : {M : Type 1} → statement M
 outcome_number_spec =
@@ -25,8 +25,8 @@ outcome_number_spec =
     (tie.spec
     (λ c. search rules)
     (λ c κs. search rules)
-    (λ c. omega (arith, c.verdict-value.ensures, verdict_small c.before.before.before.args.verdict))
+    (λ c. omega (arith, c.verdict_value.ensures, verdict_small c.args.verdict))
     (λ c. search rules)
-    (λ c κs. outcome_place _ _ c.before.outcome.given.1 c.before.before.before.requires)
+    (λ c κs. outcome_place _ _ c.in-Refused.is c.requires)
     returns
     returns-2)

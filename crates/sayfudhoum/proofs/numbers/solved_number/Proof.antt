@@ -12,10 +12,10 @@ solved_number_spec =
     tie.close
     (tie.spec
     (λ c. search rules)
-    (λ c. omega (arith, solved_count _ _ c.before.solved.given.1 c.before.before.before.requires))
+    (λ c. omega (arith, solved_count _ _ c.in-Answered.is c.requires))
     (λ c. search rules)
     (λ c. search rules)
     (λ c. search rules)
-    (λ c. sym (ap as_number c.before.solved.given.1))
+    (λ c. sym (ap as_number c.in-Answered.is))
     (λ c. search rules)
-    (λ c. c.placed-number.ensures ∙ sym (ap as_number c.before.before.solved2.given.1)))
+    (λ c. c.placed_number.ensures ∙ sym (ap as_number c.in-Refused.is)))

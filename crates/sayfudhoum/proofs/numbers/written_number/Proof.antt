@@ -12,8 +12,8 @@ written_number_spec =
     tie.close
     (tie.spec
     (λ c. search rules)
-    (λ c. omega (arith, written_count _ _ c.before.written.given.1 c.before.before.before.requires))
+    (λ c. omega (arith, written_count _ _ c.in-Count.is c.requires))
     (λ c. search rules)
-    (λ c κs. written_place _ _ c.before.written2.given.1 c.before.before.before.requires)
-    (λ c. sym (ap written_number c.before.written.given.1))
-    (λ c. c.refusal-number.ensures ∙ sym (ap written_number c.before.before.written2.given.1)))
+    (λ c κs. written_place _ _ c.in-Refused.is c.requires)
+    (λ c. sym (ap written_number c.in-Count.is))
+    (λ c. c.refusal_number.ensures ∙ sym (ap written_number c.in-Refused.is)))

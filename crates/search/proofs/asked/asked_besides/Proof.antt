@@ -24,11 +24,11 @@ itself terms d is b c h = go (ℕ_discrete c d)
     go (yes e) = rw (e, eq-eqb d d refl) tt
     go (no ne) = absurd (subst T (ap (λ n. bit n c) is ∙ bit_alone d c ne) h)
 
-returns : tie.Need-returns
-returns c = let a = c.before.before.args in itself a.terms a.d (c.if1.true ∙ c.before.term-alone.ensures) (bit 0 a.d)
+returns : tie.Need-returns-then-terms-own
+returns c = let a = c.args in itself a.terms a.d (c.if-terms-own.true ∙ c.term_alone-own.ensures) (bit 0 a.d)
 
-returns-2 : tie.Need-returns-2
-returns-2 c = let a = c.before.before.args in λ d h. or_right (eqb a.d d) (bit c.before.term-alone.result a.d) (T_true (ap (λ n. bit n a.d) c.before.term-alone.ensures ∙ only_bit a.d))
+returns-2 : tie.Need-returns-else-terms-own
+returns-2 c = let a = c.args in λ d h. or_right (eqb a.d d) (bit c.term_alone-own.result a.d) (T_true (ap (λ n. bit n a.d) c.term_alone-own.ensures ∙ only_bit a.d))
 
 pub asked_besides_spec : {M : Type 1} → statement M
 asked_besides_spec = tie.close (tie.spec (λ c κs. search rules) returns returns-2)

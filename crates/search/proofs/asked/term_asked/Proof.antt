@@ -13,55 +13,55 @@ use Rattle.search.proofs.asked.term_asked.Statement.{statement}
 use Rattle.search.proofs.asked.term_asked.Tie as tie
 
 -- the parts of the row that the entry has, and its terms
-parts : (c : tie.After-unpack) → c.unpack.result ≡ parts_of (row_in c.before.before.before.args.entry)
-parts c = rw c.before.row_in.ensures at c.unpack.ensures
+parts : (c : tie.After-unpack-p) → c.unpack-p.result ≡ parts_of (row_in c.args.entry)
+parts c = rw c.row_in.ensures at c.unpack-p.ensures
 
-terms : (c : tie.After-unpack) (d : ℕ) → T (bit (terms_in c.before.before.before.args.entry) d) → T (bit c.before.before.terms-in.result d)
-terms c d h = rw c.before.before.terms-in.ensures h
+terms : (c : tie.After-unpack-p) (d : ℕ) → T (bit (terms_in c.args.entry) d) → T (bit c.terms_in-terms.result d)
+terms c d h = rw c.terms_in-terms.ensures h
 
-returns : tie.Need-returns
+returns : tie.Need-returns-in-0
 unfolding row_of
-returns c d h = rw (← (parts c.before.before), c.before.match.keys1) (one_known (bit c.asked-besides.result) d c.before.before.unpack.result.first (c.asked-besides.ensures d (terms c.before.before d h)))
+returns c d h = rw (← (parts c.before.before), c.in-0.keys1) (one_known (bit c.asked_besides.result) d c.unpack-p.result.first (c.asked_besides.ensures d (terms c.before.before d h)))
 
-returns-2 : tie.Need-returns-2
+returns-2 : tie.Need-returns-in-1
 unfolding row_of
-returns-2 c d h = rw (← (parts c.before), c.match.keys2) tt
+returns-2 c d h = rw (← (parts c.before), c.in-1.keys2) tt
 
-returns-3 : tie.Need-returns-3
+returns-3 : tie.Need-returns-in-2
 unfolding row_of
-returns-3 c d h = rw (← (parts c.before), c.match.keys3) tt
+returns-3 c d h = rw (← (parts c.before), c.in-2.keys3) tt
 
-returns-4 : tie.Need-returns-4
+returns-4 : tie.Need-returns-in-3
 unfolding row_of
-returns-4 c d h = rw (← (parts c.before), c.match.keys4) tt
+returns-4 c d h = rw (← (parts c.before), c.in-3.keys4) tt
 
-returns-5 : tie.Need-returns-5
+returns-5 : tie.Need-returns-in-4
 unfolding row_of
-returns-5 c d h = rw (← (parts c.before), c.match.keys5) tt
+returns-5 c d h = rw (← (parts c.before), c.in-4.keys5) tt
 
-returns-6 : tie.Need-returns-6
+returns-6 : tie.Need-returns-in-5
 unfolding row_of
-returns-6 c d h = rw (← (parts c.before), c.match.keys6) tt
+returns-6 c d h = rw (← (parts c.before), c.in-5.keys6) tt
 
-returns-7 : tie.Need-returns-7
+returns-7 : tie.Need-returns-in-6
 unfolding row_of
-returns-7 c d h = rw (← (parts c.before.before), c.before.match.keys7) (one_known (bit c.asked-besides2.result) d c.before.before.unpack.result.second (c.asked-besides2.ensures d (terms c.before.before d h)))
+returns-7 c d h = rw (← (parts c.before.before), c.in-6.keys7) (one_known (bit c.asked_besides-in-6.result) d c.unpack-p.result.second (c.asked_besides-in-6.ensures d (terms c.before.before d h)))
 
-returns-8 : tie.Need-returns-8
+returns-8 : tie.Need-returns-in-7
 unfolding row_of
-returns-8 c d h = rw (← (parts c.before), c.match.keys8) tt
+returns-8 c d h = rw (← (parts c.before), c.in-7.keys8) tt
 
-returns-9 : tie.Need-returns-9
+returns-9 : tie.Need-returns-in-8
 unfolding row_of
-returns-9 c d h = rw (← (parts c.before), c.match.keys9) tt
+returns-9 c d h = rw (← (parts c.before), c.in-8.keys9) tt
 
-returns-10 : tie.Need-returns-10
+returns-10 : tie.Need-returns-in-9
 unfolding row_of
-returns-10 c d h = rw (← (parts c.before), c.match.keys10) tt
+returns-10 c d h = rw (← (parts c.before), c.in-9.keys10) tt
 
-returns-11 : tie.Need-returns-11
+returns-11 : tie.Need-returns-in_default
 unfolding row_of
-returns-11 c d h = rw (← (parts c.before.before), past_kinds _ _ _ _ c.before.match.rest) (one_known (bit c.asked-besides3.result) d c.before.before.unpack.result.first (c.asked-besides3.ensures d (terms c.before.before d h)))
+returns-11 c d h = rw (← (parts c.before.before), past_kinds _ _ _ _ c.in_default.rest) (one_known (bit c.asked_besides-in_default.result) d c.unpack-p.result.first (c.asked_besides-in_default.ensures d (terms c.before.before d h)))
 
 pub term_asked_spec : {M : Type 1} → statement M
 term_asked_spec =
@@ -70,7 +70,7 @@ term_asked_spec =
     (λ c κs. search rules)
     (λ c κs. search rules)
     (λ c κs. search rules)
-    (λ c κs. rw c.before.unpack.ensures (places_are_bits _).first)
-    (λ c κs. rw c.before.unpack.ensures (places_are_bits _).second)
-    (λ c κs. rw c.before.unpack.ensures (places_are_bits _).first)
+    (λ c κs. rw c.unpack-p.ensures (places_are_bits _).first)
+    (λ c κs. rw c.unpack-p.ensures (places_are_bits _).second)
+    (λ c κs. rw c.unpack-p.ensures (places_are_bits _).first)
     returns returns-2 returns-3 returns-4 returns-5 returns-6 returns-7 returns-8 returns-9 returns-10 returns-11)

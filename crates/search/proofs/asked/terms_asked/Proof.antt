@@ -7,16 +7,16 @@ use Rattle.search.proofs.AskedLaws.{Enough, enough_start, enough_turn, enough_en
 use Rattle.search.proofs.asked.terms_asked.Statement.{statement}
 use Rattle.search.proofs.asked.terms_asked.Tie as tie
 
-abbrev invariant-loop : tie.invariant-loop
+abbrev invariant-loop : tie.invariant-loop-i
 invariant-loop entries asked₀ i₀ asked i = (i ≤ length entries) × Enough entries asked i
 
-abbrev decreases-loop : tie.decreases-loop
+abbrev decreases-loop : tie.decreases-loop-i
 decreases-loop entries asked₀ i₀ asked i = length entries - i
 
-loop-again : tie.Need-loop-preserved invariant-loop decreases-loop
+loop-again : tie.Need-loop-i-preserved invariant-loop decreases-loop
 loop-again c =
-    let l = c.before.before.before in
-    (omega arith, enough_turn l.before.before.args.entries.now l.loop.asked l.loop.i c.term-asked.result (omega arith) c.term-asked.ensures l.loop.invariant.1)
+    let l = c in
+    (omega arith, enough_turn l.args.entries.now l.loop-i.asked l.loop-i.i c.term_asked-one.result (omega arith) c.term_asked-one.ensures l.loop-i.invariant.1)
 
 pub terms_asked_spec : {M : Type 1} → statement M
 terms_asked_spec =
@@ -24,11 +24,11 @@ terms_asked_spec =
     (tie.spec
     invariant-loop
     decreases-loop
-    (λ c. (omega arith, enough_start c.before.args.entries.now))
+    (λ c. (omega arith, enough_start c.args.entries.now))
     (λ c. search rules)
     (λ c. search rules)
     (λ c κs. search rules)
     (λ c. search rules)
     (λ c. search rules)
     loop-again
-    (λ c. enough_end c.before.before.before.args.entries.now c.before.loop.asked c.before.loop.i c.loop-test.false c.before.loop.invariant.1))
+    (λ c. enough_end c.args.entries.now c.loop-i.asked c.loop-i.i c.loop-i-test.false c.loop-i.invariant.1))

@@ -41,11 +41,11 @@ use Rattle.search.proofs.fittings.+all_fit.Tie.{close}
 abbrev μ_all_fit : Measures 2 kinds.ps ℕ
 μ_all_fit κs a = a.1.1.1.1.1.0.left
 
-abbrev invariant-loop : lts.invariant-loop
+abbrev invariant-loop : lts.invariant-loop-k
 invariant-loop entries memo₀ fixed groups unplaced term left next own terms count k₀ memo k =
     (k ≤ groups.count) × Tried fits (2 ^ fixed.sets) (rows_of_entries entries) (before fixed.asked term) groups.terms groups.count (term + left) term k × Memo entries fixed.sets memo
 
-abbrev decreases-loop : lts.decreases-loop
+abbrev decreases-loop : lts.decreases-loop-k
 decreases-loop entries memo₀ fixed groups unplaced term left next own terms count k₀ memo k = groups.count - k
 
 -- a call with t terms left, and what the calls inside it ask and tell
@@ -72,185 +72,185 @@ module _ (t : ℕ) where
   )
 
   -- no term is left
-  as_before : (c : lts.Then1 claims here all-fit.Post invariant-loop decreases-loop) → let a = c.before.before.before.args in all_terms a.ahead ≡ a.ahead.term
-  as_before c = omega (arith, c.if1.true)
+  as_before : (c : lts.Then-left-eq0 claims here all-fit.Post invariant-loop decreases-loop) → let a = c.args in all_terms a.ahead ≡ a.ahead.term
+  as_before c = omega (arith, c.if-left-eq0.true)
 
-  settled-requires : lts.Need-settled-fits-requires claims here all-fit.Post invariant-loop decreases-loop
-  settled-requires c κs = let p = c.before.before.before.before.requires.1 in (ready_same p.0 (sym p.1.1.1), (p.1.0, omega (arith, p.1.1.0, p.0.few_terms)))
+  settled-requires : lts.Need-settled_fits-requires claims here all-fit.Post invariant-loop decreases-loop
+  settled-requires c κs = let p = c.requires.1 in (ready_same p.0 (sym p.1.1.1), (p.1.0, omega (arith, p.1.1.0, p.0.few_terms)))
 
-  returns : lts.Need-returns claims here all-fit.Post invariant-loop decreases-loop
+  returns : lts.Need-returns-then-left-eq0 claims here all-fit.Post invariant-loop decreases-loop
   returns c =
-      let call = c.before.before in
-      let e = call.before.before in
-      let s = e.before.before.before in
+      let call = c in
+      let e = call in
+      let s = e in
       let a = s.args in (
-        λ r. subst (λ n. NothingFits a.entries.now a.fixed n a.groups (all_terms a.ahead)) (as_before e)
-            (subst (λ n. NothingFits a.entries.now a.fixed n a.groups n) s.requires.1.1.1.1 (call.settled-fits.ensures.0 r)),
-        call.settled-fits.ensures.1,
+        λ r. subst (λ n. NothingFits a.entries.now a.fixed n a.groups (all_terms a.ahead)) (as_before e.before.before.before.before)
+            (subst (λ n. NothingFits a.entries.now a.fixed n a.groups n) s.requires.1.1.1.1 (call.settled_fits.ensures.0 r)),
+        call.settled_fits.ensures.1,
       )
 
   -- some term is left, and it is one of twelve
-  some_left : (c : lts.Else1 claims here all-fit.Post invariant-loop decreases-loop) → 0 < c.before.before.before.args.ahead.left
-  some_left c = let a = c.before.before.before.args in a_term_left a.ahead.term a.ahead.left c.if1.false
+  some_left : (c : lts.Else-left-eq0 claims here all-fit.Post invariant-loop decreases-loop) → 0 < c.args.ahead.left
+  some_left c = let a = c.args in a_term_left a.ahead.term a.ahead.left c.if-left-eq0.false
 
-  room : (c : lts.Else1 claims here all-fit.Post invariant-loop decreases-loop) → c.before.before.before.args.ahead.term < max_terms
-  room c = let s = c.before.before.before in one_of_twelve s.args.ahead.term s.args.ahead.left c.if1.false s.requires.1.0.few_terms
+  room : (c : lts.Else-left-eq0 claims here all-fit.Post invariant-loop decreases-loop) → c.args.ahead.term < max_terms
+  room c = let s = c in one_of_twelve s.args.ahead.term s.args.ahead.left c.if-left-eq0.false s.requires.1.0.few_terms
 
   -- with the next term there are as many
-  all : (c : lts.Else1 claims here all-fit.Post invariant-loop decreases-loop) → let a = c.before.before.before.args in all_terms a.ahead ≡ a.ahead.term + 1 + (a.ahead.left - 1)
-  all c = let a = c.before.before.before.args in as_many a.ahead.term a.ahead.left c.if1.false
+  all : (c : lts.Else-left-eq0 claims here all-fit.Post invariant-loop decreases-loop) → let a = c.args in all_terms a.ahead ≡ a.ahead.term + 1 + (a.ahead.left - 1)
+  all c = let a = c.args in as_many a.ahead.term a.ahead.left c.if-left-eq0.false
 
-  ready : (c : lts.Else1 claims here all-fit.Post invariant-loop decreases-loop) {now : List ℕ} → let a = c.before.before.before.args in Memo a.entries.now a.fixed.sets now → Ready a.entries.now a.fixed now (behind_first a.ahead)
-  ready c = ready_next c.before.before.before.requires.1.0 c.if1.false
+  ready : (c : lts.Else-left-eq0 claims here all-fit.Post invariant-loop decreases-loop) {now : List ℕ} → let a = c.args in Memo a.entries.now a.fixed.sets now → Ready a.entries.now a.fixed now (behind_first a.ahead)
+  ready c = ready_next c.requires.1.0 c.if-left-eq0.false
 
   -- the same terms are counted
-  same_terms : (c : lts.Else1 claims here all-fit.Post invariant-loop decreases-loop) → let a = c.before.before.before.args in all_terms a.unplaced ≡ all_terms (behind_first a.ahead)
-  same_terms c = c.before.before.before.requires.1.1.1.1 ∙ all c
+  same_terms : (c : lts.Else-left-eq0 claims here all-fit.Post invariant-loop decreases-loop) → let a = c.args in all_terms a.unplaced ≡ all_terms (behind_first a.ahead)
+  same_terms c = c.requires.1.1.1.1 ∙ all c
 
-  skip-requires : lts.Need-all-fit-requires claims here all-fit.Post invariant-loop decreases-loop
+  skip-requires : lts.Need-all_fit-requires claims here all-fit.Post invariant-loop decreases-loop
   skip-requires c κs =
-      let e = c.before.before.before in
-      let p = e.before.before.before.requires in (
-        omega (arith, some_left e, p.0),
-        (ready e p.1.0.remembered, (p.1.1.0, (omega (arith, p.1.1.1.0), same_terms e))),
+      let e = c in
+      let p = e.requires in (
+        omega (arith, some_left e.before.before.before, p.0),
+        (ready e.before.before.before p.1.0.remembered, (p.1.1.0, (omega (arith, p.1.1.1.0), same_terms e.before.before.before))),
       )
 
-  returns-2 : lts.Need-returns-2 claims here all-fit.Post invariant-loop decreases-loop
+  returns-2 : lts.Need-returns-then-not-has_term claims here all-fit.Post invariant-loop decreases-loop
   returns-2 c =
-      let call = c.before.before in
-      let asked = call.before.before.before.has-term in
-      let e = call.before.before.before.before in
-      let a = e.before.before.before.args in (
-        λ r. fits_past a.entries.now a.fixed a.ahead.term (all_terms a.ahead) (sym asked.ensures ∙ not-true asked.result call.before.before.if2.true) a.groups
-            (subst (NothingFits a.entries.now a.fixed (a.ahead.term + 1) a.groups) (sym (all e)) (call.all-fit.ensures.0 r)),
-        call.all-fit.ensures.1,
+      let call = c in
+      let asked = call.has_term in
+      let e = call in
+      let a = e.args in (
+        λ r. fits_past a.entries.now a.fixed a.ahead.term (all_terms a.ahead) (sym asked.ensures ∙ not-true asked.result call.if-not-has_term.true) a.groups
+            (subst (NothingFits a.entries.now a.fixed (a.ahead.term + 1) a.groups) (sym (all e.before.before.before.before.before.before)) (call.all_fit.ensures.0 r)),
+        call.all_fit.ensures.1,
       )
 
   -- what stands before the loop, and the call's start
-  abbrev first : lts.At-loop claims here all-fit.Post invariant-loop decreases-loop → lts.Else1 claims here all-fit.Post invariant-loop decreases-loop
+  abbrev first : lts.At-loop-k claims here all-fit.Post invariant-loop decreases-loop → lts.Else-left-eq0 claims here all-fit.Post invariant-loop decreases-loop
   first l = l.before.before.before.before.before
 
-  abbrev start : lts.At-loop claims here all-fit.Post invariant-loop decreases-loop → lts.Start claims here all-fit.Post invariant-loop decreases-loop
+  abbrev start : lts.At-loop-k claims here all-fit.Post invariant-loop decreases-loop → lts.Start claims here all-fit.Post invariant-loop decreases-loop
   start l = (first l).before.before.before
 
   -- the group of the term alone
-  own_is : (l : lts.At-loop claims here all-fit.Post invariant-loop decreases-loop) → l.before.before.term-alone.result ≡ 2 ^ (start l).args.ahead.term
-  own_is l = l.before.before.term-alone.ensures
+  own_is : (l : lts.At-loop-k claims here all-fit.Post invariant-loop decreases-loop) → l.term_alone-own.result ≡ 2 ^ (start l).args.ahead.term
+  own_is l = l.term_alone-own.ensures
 
   -- there is room for a new group, and so for each before it
-  free : (l : lts.At-loop claims here all-fit.Post invariant-loop decreases-loop) → (start l).args.groups.count < length (start l).args.groups.terms
+  free : (l : lts.At-loop-k claims here all-fit.Post invariant-loop decreases-loop) → (start l).args.groups.count < length (start l).args.groups.terms
   free l = omega (arith, room (first l), (start l).requires.1.1.1.0, (start l).requires.1.1.0.long)
 
-  inside : (c : lts.In-loop claims here all-fit.Post invariant-loop decreases-loop) → c.before.loop.k < length (start c.before).args.groups.terms
-  inside c = omega (arith, c.loop-test.true, free c.before)
+  inside : (c : lts.In-loop-k claims here all-fit.Post invariant-loop decreases-loop) → c.loop-k.k < length (start c.before).args.groups.terms
+  inside c = omega (arith, c.loop-k-test.true, free c.before)
 
-  part-requires : lts.Need-part-fits-requires claims here all-fit.Post invariant-loop decreases-loop
+  part-requires : lts.Need-part_fits-requires claims here all-fit.Post invariant-loop decreases-loop
   part-requires c κs =
-      let turn = c.before in
-      let l = turn.before in
+      let turn = c in
+      let l = turn in
       let s = start l in
-      let group = get_or s.args.groups.terms l.loop.k 0 in
-      let small = joined_small group s.args.ahead.term (room (first l)) (s.pre.1.1.0.small l.loop.k turn.loop-test.true) in
-      (ready (first l) l.loop.invariant.2, subst (λ n. bit_or group n < group_count) (sym (own_is l)) small)
+      let group = get_or s.args.groups.terms l.loop-k.k 0 in
+      let small = joined_small group s.args.ahead.term (room (first l.before.before)) (s.pre.1.1.0.small l.loop-k.k turn.loop-k-test.true) in
+      (ready (first l.before.before) l.loop-k.invariant.2, subst (λ n. bit_or group n < group_count) (sym (own_is l.before.before)) small)
 
-  in-group-requires : lts.Need-all-fit-requires-2 claims here all-fit.Post invariant-loop decreases-loop
+  in-group-requires : lts.Need-all_fit-requires-then-part_fits claims here all-fit.Post invariant-loop decreases-loop
   in-group-requires c κs =
-      let turn = c.before.before.before.before.before.before.before in
-      let l = turn.before in
+      let turn = c in
+      let l = turn in
       let e = first l in
       let s = start l in
       let p = s.pre in
-      let next = c.before.with-term in (
+      let next = c.with_term-more in (
         omega (arith, some_left e, p.0),
         (
-          ready e c.before.before.before.before.before.part-fits.ensures.1,
+          ready e c.part_fits.ensures.1,
           (
-            groups_joined s.args.groups s.args.ahead.term (room e) p.1.1.0 l.loop.k turn.loop-test.true (inside turn) next.result next.ensures,
-            (omega (arith, p.1.1.1.0, joined_count s.args.groups l.loop.k s.args.ahead.term turn.loop-test.true next.result next.ensures), same_terms e),
+            groups_joined s.args.groups s.args.ahead.term (room e) p.1.1.0 l.loop-k.k turn.loop-k-test.true (inside turn.before.before.before.before.before.before.before) next.result next.ensures,
+            (omega (arith, p.1.1.1.0, joined_count s.args.groups l.loop-k.k s.args.ahead.term turn.loop-k-test.true next.result next.ensures), same_terms e),
           ),
         ),
       )
 
-  loop-again : lts.Need-loop-preserved claims here all-fit.Post invariant-loop decreases-loop
+  loop-again : lts.Need-loop-k-preserved claims here all-fit.Post invariant-loop decreases-loop
   loop-again c =
-      let turn = c.before.before.before.before.before in
-      let l = turn.before in
-      let a = (start l).args in
+      let turn = c in
+      let l = turn in
+      let a = (start l.before.before.before.before.before.before).args in
       let known = before a.fixed.asked a.ahead.term in
       let more = before a.fixed.asked (a.ahead.term + 1) in
       let rows = rows_of_entries a.entries.now in
-      let asked = c.before.before.before.part-fits in
+      let asked = c.part_fits in
       ⊎_elim
       (λ w. (
         omega arith,
-        tried_stuck fits (2 ^ a.fixed.sets) rows known a.groups.terms a.groups.count (all_terms a.ahead) a.ahead.term more (before_next a.fixed.asked a.ahead.term) l.loop.k turn.loop-test.true (inside turn) l.loop.invariant.1
-            (with_term a.groups l.loop.k a.ahead.term).terms refl
-            (fits_joined a.entries.now a.fixed (a.ahead.term + 1) (all_terms a.ahead) a.groups l.loop.k a.ahead.term turn.loop-test.true w.1.result w.1.ensures
-            (subst (NothingFits a.entries.now a.fixed (a.ahead.term + 1) w.1.result) (sym (all (first l))) (w.3.ensures.0 w.6.left))),
+        tried_stuck fits (2 ^ a.fixed.sets) rows known a.groups.terms a.groups.count (all_terms a.ahead) a.ahead.term more (before_next a.fixed.asked a.ahead.term) l.loop-k.k turn.loop-k-test.true (inside turn.before.before.before.before.before) l.loop-k.invariant.1
+            (with_term a.groups l.loop-k.k a.ahead.term).terms refl
+            (fits_joined a.entries.now a.fixed (a.ahead.term + 1) (all_terms a.ahead) a.groups l.loop-k.k a.ahead.term turn.loop-k-test.true w.1.result w.1.ensures
+            (subst (NothingFits a.entries.now a.fixed (a.ahead.term + 1) w.1.result) (sym (all (first l.before.before.before.before.before.before))) (w.3.ensures.0 w.6.left))),
         subst (Memo a.entries.now a.fixed.sets) (sym w.7) w.3.ensures.1,
       ))
       (λ w. (
         omega arith,
-        tried_lacks fits (2 ^ a.fixed.sets) rows known a.groups.terms a.groups.count (all_terms a.ahead) a.ahead.term more (before_next a.fixed.asked a.ahead.term) l.loop.k turn.loop-test.true (inside turn) l.loop.invariant.1
-            (subst (λ n. NoPart a.entries.now a.fixed (a.ahead.term + 1) (bit_or (get_or a.groups.terms l.loop.k 0) n) (all_terms a.ahead)) (own_is l)
-            (subst (NoPart a.entries.now a.fixed (a.ahead.term + 1) _) (sym (all (first l))) (asked.ensures.0 w.0.left))),
+        tried_lacks fits (2 ^ a.fixed.sets) rows known a.groups.terms a.groups.count (all_terms a.ahead) a.ahead.term more (before_next a.fixed.asked a.ahead.term) l.loop-k.k turn.loop-k-test.true (inside turn.before.before.before.before.before) l.loop-k.invariant.1
+            (subst (λ n. NoPart a.entries.now a.fixed (a.ahead.term + 1) (bit_or (get_or a.groups.terms l.loop-k.k 0) n) (all_terms a.ahead)) (own_is l.before.before.before.before.before.before)
+            (subst (NoPart a.entries.now a.fixed (a.ahead.term + 1) _) (sym (all (first l.before.before.before.before.before.before))) (asked.ensures.0 w.0.left))),
         subst (Memo a.entries.now a.fixed.sets) (sym w.1) asked.ensures.1,
       ))
-      c.if3.branch
+      c.if-part_fits.branch-raw
 
-  alone-requires : lts.Need-part-fits-requires-2 claims here all-fit.Post invariant-loop decreases-loop
+  alone-requires : lts.Need-part_fits-requires-2 claims here all-fit.Post invariant-loop decreases-loop
   alone-requires c κs =
-      let l = c.before.before in
+      let l = c in
       let s = start l in
-      (ready (first l) l.loop.invariant.2, subst (λ n. n < group_count) (sym (own_is l)) (alone_small s.args.ahead.term (room (first l))))
+      (ready (first l.before.before) l.loop-k.invariant.2, subst (λ n. n < group_count) (sym (own_is l.before.before)) (alone_small s.args.ahead.term (room (first l.before.before))))
 
   -- each group was tried, and the term alone is a part of no class
-  returns-4 : lts.Need-returns-4 claims here all-fit.Post invariant-loop decreases-loop
+  returns-4 : lts.Need-returns-then-not-part_fits claims here all-fit.Post invariant-loop decreases-loop
   returns-4 c =
-      let asked = c.before.before.before.part-fits2 in
-      let after = c.before.before.before.before.before in
-      let l = after.before in
-      let a = (start l).args in (
-        λ r. tried_alone fits (2 ^ a.fixed.sets) (rows_of_entries a.entries.now) (before a.fixed.asked a.ahead.term) a.groups.terms a.groups.count (all_terms a.ahead) a.ahead.term (before a.fixed.asked (a.ahead.term + 1)) (before_next a.fixed.asked a.ahead.term) l.loop.k after.loop-test.false (omega (arith, some_left (first l)))
-            l.loop.invariant.1
-            (subst (λ n. NoPart a.entries.now a.fixed (a.ahead.term + 1) n (all_terms a.ahead)) (own_is l)
-            (subst (NoPart a.entries.now a.fixed (a.ahead.term + 1) _) (sym (all (first l))) (asked.ensures.0 (not-true asked.result c.if5.true)))),
+      let asked = c.part_fits-2 in
+      let after = c in
+      let l = after in
+      let a = (start l.before.before.before.before.before.before).args in (
+        λ r. tried_alone fits (2 ^ a.fixed.sets) (rows_of_entries a.entries.now) (before a.fixed.asked a.ahead.term) a.groups.terms a.groups.count (all_terms a.ahead) a.ahead.term (before a.fixed.asked (a.ahead.term + 1)) (before_next a.fixed.asked a.ahead.term) l.loop-k.k after.loop-k-test.false (omega (arith, some_left (first l.before.before.before.before.before.before)))
+            l.loop-k.invariant.1
+            (subst (λ n. NoPart a.entries.now a.fixed (a.ahead.term + 1) n (all_terms a.ahead)) (own_is l.before.before.before.before.before.before)
+            (subst (NoPart a.entries.now a.fixed (a.ahead.term + 1) _) (sym (all (first l.before.before.before.before.before.before))) (asked.ensures.0 (not-true asked.result c.if-not-part_fits.true)))),
         asked.ensures.1,
       )
 
-  new-group-requires : lts.Need-all-fit-requires-3 claims here all-fit.Post invariant-loop decreases-loop
+  new-group-requires : lts.Need-all_fit-requires-2 claims here all-fit.Post invariant-loop decreases-loop
   new-group-requires c κs =
-      let l = c.before.before.before.before.before.before.before.before in
+      let l = c in
       let e = first l in
       let s = start l in
       let p = s.pre in
-      let next = c.before.with-group in (
+      let next = c.with_group-more in (
         omega (arith, some_left e, p.0),
         (
-          ready e c.before.before.before.before.before.part-fits2.ensures.1,
+          ready e c.part_fits-2.ensures.1,
           (
-            groups_new s.args.groups s.args.ahead.term (room e) p.1.1.0 (free l) next.result next.ensures,
+            groups_new s.args.groups s.args.ahead.term (room e) p.1.1.0 (free l.before.before.before.before.before.before.before.before) next.result next.ensures,
             (omega (arith, p.1.1.1.0, ap (λ (g : Groups). g.count) next.ensures), same_terms e),
           ),
         ),
       )
 
-  returns-5 : lts.Need-returns-5 claims here all-fit.Post invariant-loop decreases-loop
+  returns-5 : lts.Need-returns claims here all-fit.Post invariant-loop decreases-loop
   returns-5 c =
-      let call = c.before.before in
-      let after = call.before.before.before.before.before.before.before.before in
-      let l = after.before in
-      let a = (start l).args in
-      let next = call.before.before.with-group in (
-        λ r. tried_new fits (2 ^ a.fixed.sets) (rows_of_entries a.entries.now) (before a.fixed.asked a.ahead.term) a.groups.terms a.groups.count (all_terms a.ahead) a.ahead.term (before a.fixed.asked (a.ahead.term + 1)) (before_next a.fixed.asked a.ahead.term) l.loop.k after.loop-test.false (omega (arith, some_left (first l)))
-            l.loop.invariant.1 (free l) (with_group a.groups a.ahead.term).terms refl
+      let call = c in
+      let after = call in
+      let l = after in
+      let a = (start l.before.before.before.before.before.before.before.before.before.before.before).args in
+      let next = call.with_group-more in (
+        λ r. tried_new fits (2 ^ a.fixed.sets) (rows_of_entries a.entries.now) (before a.fixed.asked a.ahead.term) a.groups.terms a.groups.count (all_terms a.ahead) a.ahead.term (before a.fixed.asked (a.ahead.term + 1)) (before_next a.fixed.asked a.ahead.term) l.loop-k.k after.loop-k-test.false (omega (arith, some_left (first l.before.before.before.before.before.before.before.before.before.before.before)))
+            l.loop-k.invariant.1 (free l.before.before.before.before.before.before.before.before.before.before.before) (with_group a.groups a.ahead.term).terms refl
             (subst (λ g. NothingFits a.entries.now a.fixed (a.ahead.term + 1) g (all_terms a.ahead)) next.ensures
-            (subst (NothingFits a.entries.now a.fixed (a.ahead.term + 1) next.result) (sym (all (first l))) (call.all-fit3.ensures.0 r))),
-        call.all-fit3.ensures.1,
+            (subst (NothingFits a.entries.now a.fixed (a.ahead.term + 1) next.result) (sym (all (first l.before.before.before.before.before.before.before.before.before.before.before))) (call.all_fit-2.ensures.0 r))),
+        call.all_fit-2.ensures.1,
       )
 
-pub +all-fit-spec : {M : Type 1} → statement M
-+all-fit-spec =
+pub +all_fit_spec : {M : Type 1} → statement M
++all_fit_spec =
     close μ_all_fit λ t. lts.spec (claims t) (here t) all-fit.Post invariant-loop decreases-loop
     (settled-requires t)
     (λ c. c.before.before.settled-fits.ensures.1.long ∙ sym c.before.before.before.before.before.before.before.requires.1.0.remembered.long)

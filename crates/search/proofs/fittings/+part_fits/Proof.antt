@@ -54,84 +54,84 @@ module _ (t : ℕ) where
   )
 
   -- no term is left: the group alone decides
-  returns : lts.Need-returns claims here part-fits.Post
+  returns : lts.Need-returns-then-left-eq0 claims here part-fits.Post
   returns c =
-      let asked = c.before.before.has-mask in
-      let e = c.before.before.before.before in
-      let s = e.before.before.before in
+      let asked = c.has_mask in
+      let e = c in
+      let s = e in
       let a = s.args in
-      let all : all_terms a.ahead ≡ a.ahead.term = omega (arith, e.if1.true) in (
+      let all : all_terms a.ahead ≡ a.ahead.term = omega (arith, e.if-left-eq0.true) in (
         λ r. none_part set_tests (2 ^ a.fixed.sets) (rows_of_entries a.entries.now) (before a.fixed.asked a.ahead.term) a.group (all_terms a.ahead) (subst (AskedAre a.entries.now a.fixed.asked) all s.requires.1.0.asked_are)
             (not_there (mask_of_group a.entries.now a.fixed.sets a.group) (sym asked.ensures.0 ∙ r)),
         asked.ensures.1,
       )
 
   -- some term is left, and it is one of twelve
-  some_left : (c : lts.Else1 claims here part-fits.Post) → 0 < c.before.before.before.args.ahead.left
-  some_left c = let a = c.before.before.before.args in a_term_left a.ahead.term a.ahead.left c.if1.false
+  some_left : (c : lts.Else-left-eq0 claims here part-fits.Post) → 0 < c.args.ahead.left
+  some_left c = let a = c.args in a_term_left a.ahead.term a.ahead.left c.if-left-eq0.false
 
-  room : (c : lts.Else1 claims here part-fits.Post) → c.before.before.before.args.ahead.term < max_terms
-  room c = let s = c.before.before.before in one_of_twelve s.args.ahead.term s.args.ahead.left c.if1.false s.requires.1.0.few_terms
+  room : (c : lts.Else-left-eq0 claims here part-fits.Post) → c.args.ahead.term < max_terms
+  room c = let s = c in one_of_twelve s.args.ahead.term s.args.ahead.left c.if-left-eq0.false s.requires.1.0.few_terms
 
   -- with the next term there are as many
-  all : (c : lts.Else1 claims here part-fits.Post) → let a = c.before.before.before.args in all_terms a.ahead ≡ a.ahead.term + 1 + (a.ahead.left - 1)
-  all c = let a = c.before.before.before.args in as_many a.ahead.term a.ahead.left c.if1.false
+  all : (c : lts.Else-left-eq0 claims here part-fits.Post) → let a = c.args in all_terms a.ahead ≡ a.ahead.term + 1 + (a.ahead.left - 1)
+  all c = let a = c.args in as_many a.ahead.term a.ahead.left c.if-left-eq0.false
 
-  ready : (c : lts.Else1 claims here part-fits.Post) {now : List ℕ} → let a = c.before.before.before.args in Memo a.entries.now a.fixed.sets now → Ready a.entries.now a.fixed now (behind_first a.ahead)
-  ready c = ready_next c.before.before.before.requires.1.0 c.if1.false
+  ready : (c : lts.Else-left-eq0 claims here part-fits.Post) {now : List ℕ} → let a = c.args in Memo a.entries.now a.fixed.sets now → Ready a.entries.now a.fixed now (behind_first a.ahead)
+  ready c = ready_next c.requires.1.0 c.if-left-eq0.false
 
   -- what a call for the next term tells of this one
-  next_tells : (c : lts.Else1 claims here part-fits.Post) (group : ℕ) → let a = c.before.before.before.args in
+  next_tells : (c : lts.Else-left-eq0 claims here part-fits.Post) (group : ℕ) → let a = c.args in
       NoPart a.entries.now a.fixed (a.ahead.term + 1) group (a.ahead.term + 1 + (a.ahead.left - 1)) → NoPart a.entries.now a.fixed (a.ahead.term + 1) group (all_terms a.ahead)
-  next_tells c group = let a = c.before.before.before.args in subst (NoPart a.entries.now a.fixed (a.ahead.term + 1) group) (sym (all c))
+  next_tells c group = let a = c.args in subst (NoPart a.entries.now a.fixed (a.ahead.term + 1) group) (sym (all c))
 
-  without-requires : lts.Need-part-fits-requires claims here part-fits.Post
+  without-requires : lts.Need-part_fits-requires claims here part-fits.Post
   without-requires c κs =
-      let e = c.before in
-      let p = e.before.before.before.requires in
-      (omega (arith, some_left e, p.0), (ready e p.1.0.remembered, p.1.1))
+      let e = c in
+      let p = e.requires in
+      (omega (arith, some_left e.before, p.0), (ready e.before p.1.0.remembered, p.1.1))
 
   -- the term is not asked
-  returns-3 : lts.Need-returns-3 claims here part-fits.Post
+  returns-3 : lts.Need-returns-then-not-has_term claims here part-fits.Post
   returns-3 c =
-      let asked = c.before.has-term in
-      let call = c.before.before.before.before.before in
-      let e = call.before.before in
-      let a = e.before.before.before.args in (
-        λ r. part_past a.entries.now a.fixed a.ahead.term (all_terms a.ahead) (sym asked.ensures ∙ not-true asked.result c.if3.true) a.group
-            (next_tells e a.group (call.part-fits.ensures.0 c.before.before.if2.false)),
-        call.part-fits.ensures.1,
+      let asked = c.has_term in
+      let call = c in
+      let e = call in
+      let a = e.args in (
+        λ r. part_past a.entries.now a.fixed a.ahead.term (all_terms a.ahead) (sym asked.ensures ∙ not-true asked.result c.if-not-has_term.true) a.group
+            (next_tells e.before.before.before.before.before.before.before a.group (call.part_fits.ensures.0 c.if-part_fits.false)),
+        call.part_fits.ensures.1,
       )
 
   -- the group with the term
-  small : (c : lts.After-term-alone claims here part-fits.Post) → let s = c.before.before.before.before.before.before.before.before.before.before.before in bit_or s.args.group c.term-alone.result < group_count
+  small : (c : lts.After-term_alone-own claims here part-fits.Post) → let s = c in bit_or s.args.group c.term_alone-own.result < group_count
   small c =
-      let e = c.before.before.before.before.before.before.before.before in
-      let s = e.before.before.before in
-      subst (λ n. bit_or s.args.group n < group_count) (sym c.term-alone.ensures) (joined_small s.args.group s.args.ahead.term (room e) s.requires.1.1)
+      let e = c in
+      let s = e in
+      subst (λ n. bit_or s.args.group n < group_count) (sym c.term_alone-own.ensures) (joined_small s.args.group s.args.ahead.term (room e.before.before.before.before.before.before.before.before) s.requires.1.1)
 
-  with-requires : lts.Need-part-fits-requires-2 claims here part-fits.Post
+  with-requires : lts.Need-part_fits-requires-2 claims here part-fits.Post
   with-requires c κs =
-      let call = c.before.before.before.before.before.before.before in
-      let e = call.before.before in
-      let p = e.before.before.before.requires in
-      (omega (arith, some_left e, p.0), (ready e call.part-fits.ensures.1, small c.before))
+      let call = c in
+      let e = call in
+      let p = e.requires in
+      (omega (arith, some_left e.before.before.before.before.before.before.before.before.before, p.0), (ready e.before.before.before.before.before.before.before.before.before call.part_fits.ensures.1, small c.before))
 
-  returns-4 : lts.Need-returns-4 claims here part-fits.Post
+  returns-4 : lts.Need-returns claims here part-fits.Post
   returns-4 c =
-      let call = c.before.before in
-      let own = call.before.before in
-      let first = own.before.before.before.before.before.before in
-      let e = first.before.before in
-      let a = e.before.before.before.args in (
+      let call = c in
+      let own = call in
+      let first = own in
+      let e = first in
+      let a = e.args in (
         λ r. neither fits (2 ^ a.fixed.sets) (rows_of_entries a.entries.now) (before a.fixed.asked a.ahead.term) (before a.fixed.asked (a.ahead.term + 1)) a.ahead.term (before_next a.fixed.asked a.ahead.term) a.group (all_terms a.ahead)
-            (next_tells e a.group (first.part-fits.ensures.0 own.before.before.before.if2.false))
-            (subst (λ n. NoPart a.entries.now a.fixed (a.ahead.term + 1) (bit_or a.group n) (all_terms a.ahead)) own.term-alone.ensures (next_tells e _ (call.part-fits2.ensures.0 r))),
-        call.part-fits2.ensures.1,
+            (next_tells e.before.before.before.before.before.before.before.before.before.before.before.before a.group (first.part_fits.ensures.0 own.if-part_fits.false))
+            (subst (λ n. NoPart a.entries.now a.fixed (a.ahead.term + 1) (bit_or a.group n) (all_terms a.ahead)) own.term_alone-own.ensures (next_tells e.before.before.before.before.before.before.before.before.before.before.before.before _ (call.part_fits-2.ensures.0 r))),
+        call.part_fits-2.ensures.1,
       )
 
-pub +part-fits-spec : {M : Type 1} → statement M
-+part-fits-spec =
+pub +part_fits_spec : {M : Type 1} → statement M
++part_fits_spec =
     close μ_part_fits λ t. lts.spec (claims t) (here t) part-fits.Post
     (λ c κs. let p = c.before.before.before.before.requires.1 in (p.0.few_sets, (p.0.remembered, p.1)))
     (λ c. c.before.before.has-mask.ensures.1.long ∙ sym c.before.before.before.before.before.before.before.requires.1.0.remembered.long)

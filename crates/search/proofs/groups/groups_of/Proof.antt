@@ -11,34 +11,34 @@ use Rattle.search.proofs.GroupLaws.{groups_none, groups_more, count_more}
 use Rattle.search.proofs.groups.groups_of.Statement.{statement}
 use Rattle.search.proofs.groups.groups_of.Tie as tie
 
-abbrev invariant-loop : tie.invariant-loop
+abbrev invariant-loop : tie.invariant-loop-t
 invariant-loop terms arrangement groups₀ t₀ groups t = (t ≤ terms) × GroupsOf arrangement t groups.terms × (groups.count ≡ classes (take t arrangement))
 
-abbrev decreases-loop : tie.decreases-loop
+abbrev decreases-loop : tie.decreases-loop-t
 decreases-loop terms arrangement groups₀ t₀ groups t = terms - t
 
-with-term-requires : tie.Need-with-term-requires invariant-loop decreases-loop
+with-term-requires : tie.Need-with_term-next-requires invariant-loop decreases-loop
 with-term-requires c κs =
-    let l = c.before in
-    let s = l.before in
-    let lt = s.requires.1 l.loop.t c.loop-test.true in
+    let l = c in
+    let s = l in
+    let lt = s.requires.1 l.loop-t.t c.loop-t-test.true in
     (lt, omega arith)
 
-loop-again : tie.Need-loop-preserved invariant-loop decreases-loop
+loop-again : tie.Need-loop-t-preserved invariant-loop decreases-loop
 loop-again c =
-    let l = c.before.before in
-    let s = l.before in
-    let next = c.with-term in (
+    let l = c in
+    let s = l in
+    let next = c.with_term-next in (
       omega arith,
-      groups_more s.args.t1 l.loop.groups.terms l.loop.t (omega arith) (s.requires.1 l.loop.t c.before.loop-test.true) l.loop.invariant.1 next.result.terms (ap (λ (g : Groups). g.terms) next.ensures),
-      ap (λ (g : Groups). g.count) next.ensures ∙ count_more s.args.t1 l.loop.t l.loop.groups.count (omega arith) l.loop.invariant.2,
+      groups_more s.args.t1 l.loop-t.groups.terms l.loop-t.t (omega arith) (s.requires.1 l.loop-t.t c.loop-t-test.true) l.loop-t.invariant.1 next.result.terms (ap (λ (g : Groups). g.terms) next.ensures),
+      ap (λ (g : Groups). g.count) next.ensures ∙ count_more s.args.t1 l.loop-t.t l.loop-t.groups.count (omega arith) l.loop-t.invariant.2,
     )
 
 returns : tie.Need-returns invariant-loop decreases-loop
 returns c =
-    let l = c.before in
-    let all : l.loop.t ≡ l.before.args.terms = omega arith in
-    (subst (λ n. GroupsOf l.before.args.t1 n l.loop.groups.terms) all l.loop.invariant.1, l.loop.invariant.2 ∙ ap (λ n. classes (take n l.before.args.t1)) all)
+    let l = c in
+    let all : l.loop-t.t ≡ l.args.terms = omega arith in
+    (subst (λ n. GroupsOf l.args.t1 n l.loop-t.groups.terms) all l.loop-t.invariant.1, l.loop-t.invariant.2 ∙ ap (λ n. classes (take n l.args.t1)) all)
 
 pub groups_of_spec : {M : Type 1} → statement M
 groups_of_spec =

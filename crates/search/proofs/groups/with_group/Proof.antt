@@ -11,7 +11,7 @@ abbrev new : Groups → ℕ → Groups
 new g own = record { terms = set g.terms g.count own; count = g.count + 1 }
 
 returns : tie.Need-returns
-returns c = let a = c.before.before.args in ap (new a.groups) c.before.term-alone.ensures
+returns c = let a = c.args in ap (new a.groups) c.term_alone-own.ensures
 
 pub with_group_spec : {M : Type 1} → statement M
 with_group_spec = tie.close (tie.spec (λ c κs. search rules) (λ c. search rules) (λ c. search rules) (λ c. search rules) (λ c. search rules) returns)

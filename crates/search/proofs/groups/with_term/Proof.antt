@@ -13,8 +13,8 @@ joined g k own n = record { terms = set g.terms k (bit_or (get_or g.terms k 0) o
 
 returns : tie.Need-returns
 returns c =
-    let a = c.before.before.before.args in
-    ap₂ (joined a.groups a.k) c.before.before.term-alone.ensures c.before.count-with.ensures
+    let a = c.args in
+    ap₂ (joined a.groups a.k) c.term_alone-own.ensures c.count_with-count.ensures
 
 pub with_term_spec : {M : Type 1} → statement M
 with_term_spec = tie.close (tie.spec (λ c κs. search rules) (λ c κs. search rules) (λ c. search rules) (λ c. search rules) (λ c. search rules) (λ c. search rules) returns)

@@ -14,55 +14,55 @@ use Rattle.search.proofs.ModelLaws.{MasksTo, no_masks_yet, model_none, model_mor
 use Rattle.search.proofs.models.model.Statement.{statement}
 use Rattle.search.proofs.models.model.Tie as tie
 
-abbrev invariant-loop : tie.invariant-loop
+abbrev invariant-loop : tie.invariant-loop-k
 invariant-loop entries arrangement terms sets each count masks₀ k₀ masks k =
     (k ≤ count) × (length masks ≡ max_terms) × RestZero k masks × MasksTo entries sets (take terms arrangement) k masks
 
-abbrev decreases-loop : tie.decreases-loop
+abbrev decreases-loop : tie.decreases-loop-k
 decreases-loop entries arrangement terms sets each count masks₀ k₀ masks k = count - k
 
 -- the state at the call's start, seen from the loop; the class is one of twelve, and the array has its terms
-abbrev start : tie.At-loop invariant-loop decreases-loop → tie.Start invariant-loop decreases-loop
+abbrev start : tie.At-loop-k invariant-loop decreases-loop → tie.Start invariant-loop decreases-loop
 start l = l.before.before.before.before
 
-inside : (c : tie.In-loop invariant-loop decreases-loop) → c.before.loop.k < max_terms
-inside c = let here = (start c.before).pre.1.1.0 in omega (arith, c.loop-test.true, here.few_classes, here.few_terms)
+inside : (c : tie.In-loop-k invariant-loop decreases-loop) → c.loop-k.k < max_terms
+inside c = let here = (start c.before).pre.1.1.0 in omega (arith, c.loop-k-test.true, here.few_classes, here.few_terms)
 
-its_terms : (c : tie.In-loop invariant-loop decreases-loop) → let a = (start c.before).args in get_or a.groups.terms c.before.loop.k 0 ≡ members (take a.terms a.arrangement) c.before.loop.k
-its_terms c = (start c.before).pre.1.1.1.are c.before.loop.k (inside c)
+its_terms : (c : tie.In-loop-k invariant-loop decreases-loop) → let a = (start c.before).args in get_or a.groups.terms c.loop-k.k 0 ≡ members (take a.terms a.arrangement) c.loop-k.k
+its_terms c = (start c.before).pre.1.1.1.are c.loop-k.k (inside c)
 
-returns : tie.Need-returns invariant-loop decreases-loop
+returns : tie.Need-returns-in_default invariant-loop decreases-loop
 returns c =
-    let turn = c.before.before.before.before in
-    let l = turn.before in
+    let turn = c in
+    let l = turn in
     let s = start l in
     let a = s.args in
-    let smallest = c.before.before.before.smallest-mask in
-    model_none a.entries.now a.sets a.arrangement a.terms a.groups.count s.pre.1.1.0 s.pre.1.0 l.loop.k _ (its_terms turn) c.without-model.result (omega arith)
-    (mask_lacks a.entries.now a.sets _ s.pre.0 smallest.result smallest.ensures c.before.enum_told.given.1) c.without-model.ensures
+    let smallest = c.smallest_mask-smallest in
+    model_none a.entries.now a.sets a.arrangement a.terms a.groups.count s.pre.1.1.0 s.pre.1.0 l.loop-k.k _ (its_terms turn.before.before.before.before) c.without_model.result (omega arith)
+    (mask_lacks a.entries.now a.sets _ s.pre.0 smallest.result smallest.ensures c.in_default.is) c.without_model.ensures
 
-loop-again : tie.Need-loop-preserved invariant-loop decreases-loop
+loop-again : tie.Need-loop-k-preserved invariant-loop decreases-loop
 loop-again c =
-    let turn = c.before.before.before.before in
-    let l = turn.before in
+    let turn = c in
+    let l = turn in
     let s = start l in
     let a = s.args in
-    let smallest = c.before.before.before.smallest-mask in (
+    let smallest = c.smallest_mask-smallest in (
       omega arith,
-      length-set l.loop.masks l.loop.k _ ∙ l.loop.invariant.1,
-      rest_set l.loop.masks l.loop.k _ (inside turn) l.loop.invariant.2,
-      model_more a.entries.now a.sets a.arrangement a.terms a.groups.count s.pre.1.1.0 s.pre.1.0 l.loop.k _ (its_terms turn) l.loop.masks _ (omega (arith, inside turn))
-          (mask_is a.entries.now a.sets _ s.pre.0 smallest.result smallest.ensures _ c.before.smallest.given.1) l.loop.invariant.3,
+      length-set l.loop-k.masks l.loop-k.k _ ∙ l.loop-k.invariant.1,
+      rest_set l.loop-k.masks l.loop-k.k _ (inside turn.before.before.before.before) l.loop-k.invariant.2,
+      model_more a.entries.now a.sets a.arrangement a.terms a.groups.count s.pre.1.1.0 s.pre.1.0 l.loop-k.k _ (its_terms turn.before.before.before.before) l.loop-k.masks _ (omega (arith, inside turn.before.before.before.before))
+          (mask_is a.entries.now a.sets _ s.pre.0 smallest.result smallest.ensures _ c.in-At.is) l.loop-k.invariant.3,
     )
 
-returns-2 : tie.Need-returns-2 invariant-loop decreases-loop
+returns-2 : tie.Need-returns invariant-loop decreases-loop
 returns-2 c =
-    let l = c.before in
+    let l = c in
     let s = start l in
     let a = s.args in
-    let all : l.loop.k ≡ a.groups.count = omega arith in
-    model_all a.entries.now a.sets a.arrangement a.terms a.groups.count s.pre.1.1.0 s.pre.1.0 l.loop.masks _ l.loop.invariant.1 (subst (λ n. RestZero n l.loop.masks) all l.loop.invariant.2)
-    (subst (λ n. MasksTo a.entries.now a.sets (take a.terms a.arrangement) n l.loop.masks) all l.loop.invariant.3) refl
+    let all : l.loop-k.k ≡ a.groups.count = omega arith in
+    model_all a.entries.now a.sets a.arrangement a.terms a.groups.count s.pre.1.1.0 s.pre.1.0 l.loop-k.masks _ l.loop-k.invariant.1 (subst (λ n. RestZero n l.loop-k.masks) all l.loop-k.invariant.2)
+    (subst (λ n. MasksTo a.entries.now a.sets (take a.terms a.arrangement) n l.loop-k.masks) all l.loop-k.invariant.3) refl
 
 pub model_spec : {M : Type 1} → statement M
 model_spec =
@@ -70,8 +70,8 @@ model_spec =
     (tie.spec
     invariant-loop
     decreases-loop
-    (λ c. let here = c.before.before.before.requires.1.1.0 in omega (arith, here.few_classes, here.few_terms))
-    (λ c. let a = c.before.before.before.args in (omega arith, refl, refl, no_masks_yet a.entries.now a.sets (take a.terms a.arrangement) (padded max_terms [])))
+    (λ c. let here = c.requires.1.1.0 in omega (arith, here.few_classes, here.few_terms))
+    (λ c. let a = c.args in (omega arith, refl, refl, no_masks_yet a.entries.now a.sets (take a.terms a.arrangement) (padded max_terms [])))
     (λ c. omega (arith, inside c))
     (λ c. omega (arith, inside c))
     (λ c κs. search rules)

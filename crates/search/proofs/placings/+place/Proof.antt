@@ -36,10 +36,10 @@ use Rattle.search.proofs.placings.+place.Tie.{close}
 abbrev μ_place : Measures 2 kinds.ps ℕ
 μ_place κs a = a.1.1.1.1.1.0.left
 
-abbrev invariant-loop : lts.invariant-loop
+abbrev invariant-loop : lts.invariant-loop-c
 invariant-loop entries memo₀ fixed arrangement groups placed left count rest c₀ memo c = (c ≤ suc groups.count) × Before entries fixed.sets arrangement placed left groups.count c × Memo entries fixed.sets memo
 
-abbrev decreases-loop : lts.decreases-loop
+abbrev decreases-loop : lts.decreases-loop-c
 decreases-loop entries memo₀ fixed arrangement groups placed left count rest c₀ memo c = suc groups.count - c
 
 -- a call with t terms left, and what the calls inside it ask and tell
@@ -63,9 +63,9 @@ module _ (t : ℕ) where
     is-possible.Learnt,
   )
 
-  all-fit-requires : lts.Need-all-fit-requires claims here place.Post invariant-loop decreases-loop
+  all-fit-requires : lts.Need-all_fit-requires claims here place.Post invariant-loop decreases-loop
   all-fit-requires c κs =
-      let s = c.before.before.before in
+      let s = c in
       let p = s.requires.1 in
       let placing = p.1.0 in (
         p.0,
@@ -78,13 +78,13 @@ module _ (t : ℕ) where
         ),
       )
 
-  returns : lts.Need-returns claims here place.Post invariant-loop decreases-loop
+  returns : lts.Need-returns-then-not-all_fit claims here place.Post invariant-loop decreases-loop
   returns c =
-      let told = c.before.before.before.before.all_fit in
-      let s = c.before.before.before.before.before.before.before.before in
+      let told = c.all_fit in
+      let s = c in
       let a = s.args in
-      let nothing = told.ensures.0 (not-true told.result c.before.if1.true) in (
-        answer_none a.entries.now a.fixed.sets a.arrangement a.unplaced.term a.unplaced.left a.groups.count c.without-model.result c.without-model.ensures
+      let nothing = told.ensures.0 (not-true told.result c.if-not-all_fit.true) in (
+        answer_none a.entries.now a.fixed.sets a.arrangement a.unplaced.term a.unplaced.left a.groups.count c.without_model.result c.without_model.ensures
             (unfit_cut s.requires.1.1.0 s.requires.1.1.1.0 a.entries.now a.fixed a.unplaced.left nothing),
         told.ensures.1,
       )
@@ -95,98 +95,98 @@ module _ (t : ℕ) where
 
   model-requires : lts.Need-model-requires claims here place.Post invariant-loop decreases-loop
   model-requires c κs =
-      let s = c.before.before.before.before.before.before.before.before in
+      let s = c in
       let a = s.args in
-      (s.requires.1.0.few_sets, (declared s a.unplaced.term (none_left a.unplaced.term a.unplaced.left c.if2.true), (s.requires.1.1.0, s.requires.1.1.1.0)))
+      (s.requires.1.0.few_sets, (declared s.before.before.before.before.before.before.before.before a.unplaced.term (none_left a.unplaced.term a.unplaced.left c.if-left-eq0.true), (s.requires.1.1.0, s.requires.1.1.1.0)))
 
-  returns-2 : lts.Need-returns-2 claims here place.Post invariant-loop decreases-loop
+  returns-2 : lts.Need-returns-then-left-eq0 claims here place.Post invariant-loop decreases-loop
   returns-2 c =
-      let a = c.before.before.before.before.before.before.before.before.before.args in
-      (answer_whole a.entries.now a.fixed.sets a.arrangement a.unplaced.term a.unplaced.left a.groups.count c.model.result c.before.if2.true c.model.ensures, c.before.before.before.before.before.all_fit.ensures.1)
+      let a = c.args in
+      (answer_whole a.entries.now a.fixed.sets a.arrangement a.unplaced.term a.unplaced.left a.groups.count c.model.result c.if-left-eq0.true c.model.ensures, c.all_fit.ensures.1)
 
   -- some term is left, and it is one of twelve
-  some_here : (c : lts.Else2 claims here place.Post invariant-loop decreases-loop) → 0 < c.before.before.before.before.before.before.before.before.args.unplaced.left
-  some_here c = let a = c.before.before.before.before.before.before.before.before.args in some_left a.unplaced.term a.unplaced.left c.if2.false
+  some_here : (c : lts.Else-left-eq0 claims here place.Post invariant-loop decreases-loop) → 0 < c.args.unplaced.left
+  some_here c = let a = c.args in some_left a.unplaced.term a.unplaced.left c.if-left-eq0.false
 
-  one_here : (c : lts.Else2 claims here place.Post invariant-loop decreases-loop) → c.before.before.before.before.before.before.before.before.args.unplaced.term < max_terms
-  one_here c = let s = c.before.before.before.before.before.before.before.before in room s.args.unplaced.term s.args.unplaced.left c.if2.false s.requires.1.0.few_terms
+  one_here : (c : lts.Else-left-eq0 claims here place.Post invariant-loop decreases-loop) → c.args.unplaced.term < max_terms
+  one_here c = let s = c in room s.args.unplaced.term s.args.unplaced.left c.if-left-eq0.false s.requires.1.0.few_terms
 
-  loop-holds : lts.Need-loop-init claims here place.Post invariant-loop decreases-loop
+  loop-holds : lts.Need-loop-c-init claims here place.Post invariant-loop decreases-loop
   loop-holds c =
-      let s = c.before.before.before.before.before.before.before.before in
+      let s = c in
       let a = s.args in
-      (omega arith, before_first a.entries.now a.fixed.sets a.arrangement a.unplaced.term a.unplaced.left a.groups.count s.requires.1.1.0 (some_here c), c.before.before.before.before.all_fit.ensures.1)
+      (omega arith, before_first a.entries.now a.fixed.sets a.arrangement a.unplaced.term a.unplaced.left a.groups.count s.requires.1.1.0 (some_here c), c.all_fit.ensures.1)
 
   -- the state at the call's start, seen from its loop
-  abbrev start : lts.At-loop claims here place.Post invariant-loop decreases-loop → lts.Start claims here place.Post invariant-loop decreases-loop
+  abbrev start : lts.At-loop-c claims here place.Post invariant-loop decreases-loop → lts.Start claims here place.Post invariant-loop decreases-loop
   start l = l.before.before.before.before.before.before.before.before.before
 
-  room_here : (l : lts.At-loop claims here place.Post invariant-loop decreases-loop) → (start l).args.unplaced.term < max_terms
+  room_here : (l : lts.At-loop-c claims here place.Post invariant-loop decreases-loop) → (start l).args.unplaced.term < max_terms
   room_here l = one_here l.before
 
   -- the class tried is one that is allowed
-  allowed : (c : lts.In-loop claims here place.Post invariant-loop decreases-loop) → c.before.loop.c ≤ (start c.before).args.groups.count
-  allowed c = omega (arith, c.loop-test.true)
+  allowed : (c : lts.In-loop-c claims here place.Post invariant-loop decreases-loop) → c.loop-c.c ≤ (start c.before).args.groups.count
+  allowed c = omega (arith, c.loop-c-test.true)
 
-  inside : (c : lts.In-loop claims here place.Post invariant-loop decreases-loop) → c.before.loop.c < max_terms
+  inside : (c : lts.In-loop-c claims here place.Post invariant-loop decreases-loop) → c.loop-c.c < max_terms
   inside c = omega (arith, allowed c, (start c.before).pre.1.1.0.few_classes, room_here c.before)
 
-  place-requires : lts.Need-place-requires claims here place.Post invariant-loop decreases-loop
+  place-requires : lts.Need-place-r-requires claims here place.Post invariant-loop decreases-loop
   place-requires c κs =
-      let l = c.before.before.before in
+      let l = c in
       let s = start l in
       let a = s.args in
-      let more = c.before.with-term in (
-        fewer a.unplaced.term a.unplaced.left l.before.if2.false t s.pre.0,
+      let more = c.with_term-grown in (
+        fewer a.unplaced.term a.unplaced.left l.if-left-eq0.false t s.pre.0,
         (
-          ready_next s.pre.1.0 l.before.if2.false l.loop.invariant.2,
+          ready_next s.pre.1.0 l.if-left-eq0.false l.loop-c.invariant.2,
           (
-            placing_next s.pre.1.1.0 l.loop.c (room_here l) more.result.count (allowed c.before.before) (ap (λ (g : Groups). g.count) more.ensures),
+            placing_next s.pre.1.1.0 l.loop-c.c (room_here l.before.before.before) more.result.count (allowed c.before.before) (ap (λ (g : Groups). g.count) more.ensures),
             (
-              groups_next s.pre.1.1.0 s.pre.1.1.1.0 l.loop.c (room_here l) (inside c.before.before) more.result.terms (ap (λ (g : Groups). g.terms) more.ensures),
-              declared s _ (as_many a.unplaced.term a.unplaced.left l.before.if2.false),
+              groups_next s.pre.1.1.0 s.pre.1.1.1.0 l.loop-c.c (room_here l.before.before.before) (inside c.before.before) more.result.terms (ap (λ (g : Groups). g.terms) more.ensures),
+              declared s _ (as_many a.unplaced.term a.unplaced.left l.if-left-eq0.false),
             ),
           ),
         ),
       )
 
   -- what the call with the next term in the class c found
-  called : (c : lts.After-place claims here place.Post invariant-loop decreases-loop) → let l = c.before.before.before.before in let a = (start l).args in c.place.result ≡ answer_of (found_in a.entries.now a.fixed.sets a.arrangement a.unplaced.term a.unplaced.left a.groups.count l.loop.c)
+  called : (c : lts.After-place-r claims here place.Post invariant-loop decreases-loop) → let l = c in let a = (start l.before.before.before.before).args in c.place-r.result ≡ answer_of (found_in a.entries.now a.fixed.sets a.arrangement a.unplaced.term a.unplaced.left a.groups.count l.loop-c.c)
   called c =
-      let l = c.before.before.before.before in
+      let l = c in
       let s = start l in
       let a = s.args in
-      answer_next a.entries.now a.fixed.sets a.arrangement a.unplaced.term a.unplaced.left a.groups.count s.pre.1.1.0 l.loop.c c.place.result (room_here l) c.place.ensures.0
+      answer_next a.entries.now a.fixed.sets a.arrangement a.unplaced.term a.unplaced.left a.groups.count s.pre.1.1.0 l.loop-c.c c.place-r.result (room_here l.before.before.before.before) c.place-r.ensures.0
 
-  returns-3 : lts.Need-returns-3 claims here place.Post invariant-loop decreases-loop
+  returns-3 : lts.Need-returns-then-is_possible claims here place.Post invariant-loop decreases-loop
   returns-3 c =
-      let call = c.before.before.before.before in
-      let l = call.before.before.before.before in
-      let a = (start l).args in (
-        class_hit a.entries.now a.fixed.sets a.arrangement a.unplaced.term a.unplaced.left a.groups.count l.loop.c call.place.result (allowed call.before.before.before) (called call) l.loop.invariant.1
-            c.before.is-possible.result c.before.is-possible.ensures c.if3.true,
-        call.place.ensures.1,
+      let call = c in
+      let l = call in
+      let a = (start l.before.before.before.before.before.before.before.before).args in (
+        class_hit a.entries.now a.fixed.sets a.arrangement a.unplaced.term a.unplaced.left a.groups.count l.loop-c.c call.place-r.result (allowed call.before.before.before.before.before.before.before) (called call.before.before.before.before) l.loop-c.invariant.1
+            c.is_possible.result c.is_possible.ensures c.if-is_possible.true,
+        call.place-r.ensures.1,
       )
 
-  loop-again : lts.Need-loop-preserved claims here place.Post invariant-loop decreases-loop
+  loop-again : lts.Need-loop-c-preserved claims here place.Post invariant-loop decreases-loop
   loop-again c =
-      let call = c.before.before.before.before in
-      let l = call.before.before.before.before in
-      let a = (start l).args in (
-        omega (arith, allowed call.before.before.before),
-        class_miss a.entries.now a.fixed.sets a.arrangement a.unplaced.term a.unplaced.left a.groups.count l.loop.c call.place.result (allowed call.before.before.before) (called call) l.loop.invariant.1
-            c.before.is-possible.result c.before.is-possible.ensures c.if3.false,
-        call.place.ensures.1,
+      let call = c in
+      let l = call in
+      let a = (start l.before.before.before.before.before.before.before.before).args in (
+        omega (arith, allowed call.before.before.before.before.before.before.before),
+        class_miss a.entries.now a.fixed.sets a.arrangement a.unplaced.term a.unplaced.left a.groups.count l.loop-c.c call.place-r.result (allowed call.before.before.before.before.before.before.before) (called call.before.before.before.before) l.loop-c.invariant.1
+            c.is_possible.result c.is_possible.ensures c.if-is_possible.false,
+        call.place-r.ensures.1,
       )
 
-  returns-4 : lts.Need-returns-4 claims here place.Post invariant-loop decreases-loop
+  returns-4 : lts.Need-returns claims here place.Post invariant-loop decreases-loop
   returns-4 c =
-      let l = c.before.before in
-      let a = (start l).args in
-      (answer_none a.entries.now a.fixed.sets a.arrangement a.unplaced.term a.unplaced.left a.groups.count c.without-model2.result c.without-model2.ensures (class_end a.entries.now a.fixed.sets a.arrangement a.unplaced.term a.unplaced.left a.groups.count l.loop.c c.before.loop-test.false l.loop.invariant.1), l.loop.invariant.2)
+      let l = c in
+      let a = (start l.before.before).args in
+      (answer_none a.entries.now a.fixed.sets a.arrangement a.unplaced.term a.unplaced.left a.groups.count c.without_model-2.result c.without_model-2.ensures (class_end a.entries.now a.fixed.sets a.arrangement a.unplaced.term a.unplaced.left a.groups.count l.loop-c.c c.loop-c-test.false l.loop-c.invariant.1), l.loop-c.invariant.2)
 
-pub +place-spec : {M : Type 1} → statement M
-+place-spec =
+pub +place_spec : {M : Type 1} → statement M
++place_spec =
     close μ_place λ t. lts.spec (claims t) (here t) place.Post invariant-loop decreases-loop
     (all-fit-requires t)
     (λ c κs. search rules)

@@ -40,11 +40,11 @@ use Rattle.search.proofs.rest_fittings.+rest_fits.Tie.{close}
 abbrev μ_rest_fits : Measures 2 kinds.ps ℕ
 μ_rest_fits κs a = a.1.1.1.1.0.left
 
-abbrev invariant-loop : lts.invariant-loop
+abbrev invariant-loop : lts.invariant-loop-k
 invariant-loop entries memo₀ fixed groups term left next own terms count k₀ memo k =
     (k ≤ groups.count) × Tried fits (2 ^ fixed.sets) (rows_of_entries entries) (before fixed.asked (term + left)) groups.terms groups.count (term + left) term k × Memo entries fixed.sets memo
 
-abbrev decreases-loop : lts.decreases-loop
+abbrev decreases-loop : lts.decreases-loop-k
 decreases-loop entries memo₀ fixed groups term left next own terms count k₀ memo k = groups.count - k
 
 -- a call with t terms left, and what the calls inside it ask and tell
@@ -67,125 +67,125 @@ module _ (t : ℕ) where
   )
 
   -- some term is left, and it is one of twelve
-  some_left : (c : lts.Else1 claims here rest-fits.Post invariant-loop decreases-loop) → 0 < c.before.before.before.args.ahead.left
-  some_left c = let a = c.before.before.before.args in a_term_left a.ahead.term a.ahead.left c.if1.false
+  some_left : (c : lts.Else-left-eq0 claims here rest-fits.Post invariant-loop decreases-loop) → 0 < c.args.ahead.left
+  some_left c = let a = c.args in a_term_left a.ahead.term a.ahead.left c.if-left-eq0.false
 
-  room : (c : lts.Else1 claims here rest-fits.Post invariant-loop decreases-loop) → c.before.before.before.args.ahead.term < max_terms
-  room c = let s = c.before.before.before in one_of_twelve s.args.ahead.term s.args.ahead.left c.if1.false s.requires.1.0.few_terms
+  room : (c : lts.Else-left-eq0 claims here rest-fits.Post invariant-loop decreases-loop) → c.args.ahead.term < max_terms
+  room c = let s = c in one_of_twelve s.args.ahead.term s.args.ahead.left c.if-left-eq0.false s.requires.1.0.few_terms
 
   -- with the next term there are as many
-  all : (c : lts.Else1 claims here rest-fits.Post invariant-loop decreases-loop) → let a = c.before.before.before.args in all_terms a.ahead ≡ a.ahead.term + 1 + (a.ahead.left - 1)
-  all c = let a = c.before.before.before.args in as_many a.ahead.term a.ahead.left c.if1.false
+  all : (c : lts.Else-left-eq0 claims here rest-fits.Post invariant-loop decreases-loop) → let a = c.args in all_terms a.ahead ≡ a.ahead.term + 1 + (a.ahead.left - 1)
+  all c = let a = c.args in as_many a.ahead.term a.ahead.left c.if-left-eq0.false
 
-  ready : (c : lts.Else1 claims here rest-fits.Post invariant-loop decreases-loop) {now : List ℕ} → let a = c.before.before.before.args in Memo a.entries.now a.fixed.sets now → Ready a.entries.now a.fixed now (behind_first a.ahead)
-  ready c = ready_next c.before.before.before.requires.1.0 c.if1.false
+  ready : (c : lts.Else-left-eq0 claims here rest-fits.Post invariant-loop decreases-loop) {now : List ℕ} → let a = c.args in Memo a.entries.now a.fixed.sets now → Ready a.entries.now a.fixed now (behind_first a.ahead)
+  ready c = ready_next c.requires.1.0 c.if-left-eq0.false
 
-  needs-a-group-requires : lts.Need-needs-a-group-requires claims here rest-fits.Post invariant-loop decreases-loop
+  needs-a-group-requires : lts.Need-needs_a_group-requires claims here rest-fits.Post invariant-loop decreases-loop
   needs-a-group-requires c κs =
-      let e = c.before.before in
-      let s = e.before.before.before in
-      (s.requires.1.0.few_sets, (s.requires.1.0.remembered, omega (arith, c.before.term-alone.ensures, alone_small s.args.ahead.term (room e))))
+      let e = c in
+      let s = e in
+      (s.requires.1.0.few_sets, (s.requires.1.0.remembered, omega (arith, c.term_alone-own.ensures, alone_small s.args.ahead.term (room e.before.before))))
 
-  skip-requires : lts.Need-rest-fits-requires claims here rest-fits.Post invariant-loop decreases-loop
+  skip-requires : lts.Need-rest_fits-requires claims here rest-fits.Post invariant-loop decreases-loop
   skip-requires c κs =
-      let told = c.before.before.before.before in
-      let e = told.before.before.before in
-      let s = e.before.before.before in
+      let told = c in
+      let e = told in
+      let s = e in
       let p = s.requires in
-      (omega (arith, some_left e, p.0), (ready e told.needs-a-group.ensures.1, p.1.1))
+      (omega (arith, some_left e.before.before.before.before.before.before.before, p.0), (ready e.before.before.before.before.before.before.before told.needs_a_group.ensures.1, p.1.1))
 
-  returns-2 : lts.Need-returns-2 claims here rest-fits.Post invariant-loop decreases-loop
+  returns-2 : lts.Need-returns-then-not-needs_a_group claims here rest-fits.Post invariant-loop decreases-loop
   returns-2 c =
-      let call = c.before.before in
-      let e = call.before.before.before.before.before.before.before.before in
-      let a = e.before.before.before.args in
-      ((λ r. subst (λ n. NothingFits a.entries.now a.fixed n a.groups n) (sym (all e)) (call.rest-fits.ensures.0 r)), call.rest-fits.ensures.1)
+      let call = c in
+      let e = call in
+      let a = e.args in
+      ((λ r. subst (λ n. NothingFits a.entries.now a.fixed n a.groups n) (sym (all e.before.before.before.before.before.before.before.before.before.before)) (call.rest_fits.ensures.0 r)), call.rest_fits.ensures.1)
 
   -- what stands before the loop, and the call's start
-  abbrev first : lts.At-loop claims here rest-fits.Post invariant-loop decreases-loop → lts.Else1 claims here rest-fits.Post invariant-loop decreases-loop
+  abbrev first : lts.At-loop-k claims here rest-fits.Post invariant-loop decreases-loop → lts.Else-left-eq0 claims here rest-fits.Post invariant-loop decreases-loop
   first l = l.before.before.before.before.before.before.before.before
 
-  abbrev start : lts.At-loop claims here rest-fits.Post invariant-loop decreases-loop → lts.Start claims here rest-fits.Post invariant-loop decreases-loop
+  abbrev start : lts.At-loop-k claims here rest-fits.Post invariant-loop decreases-loop → lts.Start claims here rest-fits.Post invariant-loop decreases-loop
   start l = (first l).before.before.before
 
   -- the group of the term alone
-  own_is : (l : lts.At-loop claims here rest-fits.Post invariant-loop decreases-loop) → l.before.before.before.before.before.before.before.term-alone.result ≡ 2 ^ (start l).args.ahead.term
-  own_is l = l.before.before.before.before.before.before.before.term-alone.ensures
+  own_is : (l : lts.At-loop-k claims here rest-fits.Post invariant-loop decreases-loop) → l.term_alone-own.result ≡ 2 ^ (start l).args.ahead.term
+  own_is l = l.term_alone-own.ensures
 
   -- the group is one of twelve, and with the term it is a group of terms
-  inside : (c : lts.In-loop claims here rest-fits.Post invariant-loop decreases-loop) → c.before.loop.k < max_terms
-  inside c = omega (arith, c.loop-test.true, (start c.before).pre.1.1.1)
+  inside : (c : lts.In-loop-k claims here rest-fits.Post invariant-loop decreases-loop) → c.loop-k.k < max_terms
+  inside c = omega (arith, c.loop-k-test.true, (start c.before).pre.1.1.1)
 
-  within : (c : lts.In-loop claims here rest-fits.Post invariant-loop decreases-loop) → c.before.loop.k < length (start c.before).args.groups.terms
+  within : (c : lts.In-loop-k claims here rest-fits.Post invariant-loop decreases-loop) → c.loop-k.k < length (start c.before).args.groups.terms
   within c = omega (arith, inside c, (start c.before).pre.1.1.0.long)
 
-  small : (c : lts.In-loop claims here rest-fits.Post invariant-loop decreases-loop) →
-      bit_or (get_or (start c.before).args.groups.terms c.before.loop.k 0) c.before.before.before.before.before.before.before.before.term-alone.result < group_count
+  small : (c : lts.In-loop-k claims here rest-fits.Post invariant-loop decreases-loop) →
+      bit_or (get_or (start c.before).args.groups.terms c.loop-k.k 0) c.term_alone-own.result < group_count
   small c =
-      let l = c.before in
-      let group = get_or (start l).args.groups.terms l.loop.k 0 in
-      subst (λ n. bit_or group n < group_count) (sym (own_is l)) (joined_small group (start l).args.ahead.term (room (first l)) ((start l).requires.1.1.0.small l.loop.k c.loop-test.true))
+      let l = c in
+      let group = get_or (start l.before).args.groups.terms l.loop-k.k 0 in
+      subst (λ n. bit_or group n < group_count) (sym (own_is l.before)) (joined_small group (start l.before).args.ahead.term (room (first l.before)) ((start l.before).requires.1.1.0.small l.loop-k.k c.loop-k-test.true))
 
-  in-group-requires : lts.Need-rest-fits-requires-2 claims here rest-fits.Post invariant-loop decreases-loop
+  in-group-requires : lts.Need-rest_fits-requires-then-has_mask claims here rest-fits.Post invariant-loop decreases-loop
   in-group-requires c κs =
-      let turn = c.before.before.before.before.before.before.before in
-      let l = turn.before in
+      let turn = c in
+      let l = turn in
       let s = start l in
       let p = s.pre in
-      let next = c.before.with-term in (
-        omega (arith, some_left (first l), p.0),
+      let next = c.with_term-more in (
+        omega (arith, some_left (first l.before.before.before.before.before.before.before.before), p.0),
         (
-          ready (first l) c.before.before.before.before.before.has-mask.ensures.1,
+          ready (first l.before.before.before.before.before.before.before.before) c.has_mask.ensures.1,
           (
-            groups_joined s.args.groups s.args.ahead.term (room (first l)) p.1.1.0 l.loop.k turn.loop-test.true (within turn) next.result next.ensures,
-            omega (arith, p.1.1.1, joined_count s.args.groups l.loop.k s.args.ahead.term turn.loop-test.true next.result next.ensures),
+            groups_joined s.args.groups s.args.ahead.term (room (first l.before.before.before.before.before.before.before.before)) p.1.1.0 l.loop-k.k turn.loop-k-test.true (within turn.before.before.before.before.before.before.before) next.result next.ensures,
+            omega (arith, p.1.1.1, joined_count s.args.groups l.loop-k.k s.args.ahead.term turn.loop-k-test.true next.result next.ensures),
           ),
         ),
       )
 
-  loop-again : lts.Need-loop-preserved claims here rest-fits.Post invariant-loop decreases-loop
+  loop-again : lts.Need-loop-k-preserved claims here rest-fits.Post invariant-loop decreases-loop
   loop-again c =
-      let turn = c.before.before.before.before.before in
-      let l = turn.before in
+      let turn = c in
+      let l = turn in
       let s = start l in
       let a = s.args in
       let known = before a.fixed.asked (all_terms a.ahead) in
       let rows = rows_of_entries a.entries.now in
-      let asked = c.before.before.before.has-mask in
+      let asked = c.has_mask in
       ⊎_elim
       (λ w. (
         omega arith,
-        tried_stuck fits (2 ^ a.fixed.sets) rows known a.groups.terms a.groups.count (all_terms a.ahead) a.ahead.term known (λ d h. inl h) l.loop.k turn.loop-test.true (within turn) l.loop.invariant.1
-            (with_term a.groups l.loop.k a.ahead.term).terms refl
-            (fits_joined a.entries.now a.fixed (all_terms a.ahead) (all_terms a.ahead) a.groups l.loop.k a.ahead.term turn.loop-test.true w.1.result w.1.ensures
-            (subst (λ n. NothingFits a.entries.now a.fixed n w.1.result n) (sym (all (first l))) (w.3.ensures.0 w.6.left))),
+        tried_stuck fits (2 ^ a.fixed.sets) rows known a.groups.terms a.groups.count (all_terms a.ahead) a.ahead.term known (λ d h. inl h) l.loop-k.k turn.loop-k-test.true (within turn.before.before.before.before.before) l.loop-k.invariant.1
+            (with_term a.groups l.loop-k.k a.ahead.term).terms refl
+            (fits_joined a.entries.now a.fixed (all_terms a.ahead) (all_terms a.ahead) a.groups l.loop-k.k a.ahead.term turn.loop-k-test.true w.1.result w.1.ensures
+            (subst (λ n. NothingFits a.entries.now a.fixed n w.1.result n) (sym (all (first l.before.before.before.before.before.before))) (w.3.ensures.0 w.6.left))),
         subst (Memo a.entries.now a.fixed.sets) (sym w.7) w.3.ensures.1,
       ))
       (λ w. (
         omega arith,
-        tried_lacks fits (2 ^ a.fixed.sets) rows known a.groups.terms a.groups.count (all_terms a.ahead) a.ahead.term known (λ d h. inl h) l.loop.k turn.loop-test.true (within turn) l.loop.invariant.1
-            (none_part set_tests (2 ^ a.fixed.sets) rows known (bit_or (get_or a.groups.terms l.loop.k 0) (2 ^ a.ahead.term)) (all_terms a.ahead) s.pre.1.0.asked_are
-            (ap (λ n. mask_of_group a.entries.now a.fixed.sets (bit_or (get_or a.groups.terms l.loop.k 0) n)) (sym (own_is l)) ∙ not_there (mask_of_group a.entries.now a.fixed.sets _) (sym asked.ensures.0 ∙ w.0.left))),
+        tried_lacks fits (2 ^ a.fixed.sets) rows known a.groups.terms a.groups.count (all_terms a.ahead) a.ahead.term known (λ d h. inl h) l.loop-k.k turn.loop-k-test.true (within turn.before.before.before.before.before) l.loop-k.invariant.1
+            (none_part set_tests (2 ^ a.fixed.sets) rows known (bit_or (get_or a.groups.terms l.loop-k.k 0) (2 ^ a.ahead.term)) (all_terms a.ahead) s.pre.1.0.asked_are
+            (ap (λ n. mask_of_group a.entries.now a.fixed.sets (bit_or (get_or a.groups.terms l.loop-k.k 0) n)) (sym (own_is l.before.before.before.before.before.before)) ∙ not_there (mask_of_group a.entries.now a.fixed.sets _) (sym asked.ensures.0 ∙ w.0.left))),
         subst (Memo a.entries.now a.fixed.sets) (sym w.1) asked.ensures.1,
       ))
-      c.if3.branch
+      c.if-has_mask.branch-raw
 
-  returns-4 : lts.Need-returns-4 claims here rest-fits.Post invariant-loop decreases-loop
+  returns-4 : lts.Need-returns claims here rest-fits.Post invariant-loop decreases-loop
   returns-4 c =
-      let l = c.before in
+      let l = c in
       let s = start l in
       let a = s.args in
       let known = before a.fixed.asked (all_terms a.ahead) in
       let rows = rows_of_entries a.entries.now in
-      let asked = l.before.before.before.before.before.needs-a-group in
-      let alone = ap (mask_of_group a.entries.now a.fixed.sets) (sym (own_is l)) ∙ asked.ensures.0 (not-false asked.result l.before.before.if2.false) in (
-        λ r. tried_alone fits (2 ^ a.fixed.sets) rows known a.groups.terms a.groups.count (all_terms a.ahead) a.ahead.term known (λ d h. inl h) l.loop.k c.loop-test.false (omega (arith, some_left (first l))) l.loop.invariant.1
+      let asked = l.needs_a_group in
+      let alone = ap (mask_of_group a.entries.now a.fixed.sets) (sym (own_is l.before)) ∙ asked.ensures.0 (not-false asked.result l.if-not-needs_a_group.false) in (
+        λ r. tried_alone fits (2 ^ a.fixed.sets) rows known a.groups.terms a.groups.count (all_terms a.ahead) a.ahead.term known (λ d h. inl h) l.loop-k.k c.loop-k-test.false (omega (arith, some_left (first l.before))) l.loop-k.invariant.1
             (none_part set_tests (2 ^ a.fixed.sets) rows known (2 ^ a.ahead.term) (all_terms a.ahead) s.pre.1.0.asked_are alone),
-        l.loop.invariant.2,
+        l.loop-k.invariant.2,
       )
 
-pub +rest-fits-spec : {M : Type 1} → statement M
-+rest-fits-spec =
+pub +rest_fits_spec : {M : Type 1} → statement M
++rest_fits_spec =
     close μ_rest_fits λ t. lts.spec (claims t) (here t) rest-fits.Post invariant-loop decreases-loop
     (λ c. ((λ r. absurd (true≢false r)), c.before.before.before.requires.1.0.remembered))
     (λ c. omega (arith, room t c))

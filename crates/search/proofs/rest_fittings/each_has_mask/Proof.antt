@@ -11,23 +11,23 @@ use Rattle.search.proofs.MemoLaws.{not_there}
 use Rattle.search.proofs.rest_fittings.each_has_mask.Statement.{statement}
 use Rattle.search.proofs.rest_fittings.each_has_mask.Tie as tie
 
-abbrev invariant-loop : tie.invariant-loop
+abbrev invariant-loop : tie.invariant-loop-k
 invariant-loop entries memo₀ sets terms count k₀ memo k = (k ≤ count) × Memo entries sets memo
 
-abbrev decreases-loop : tie.decreases-loop
+abbrev decreases-loop : tie.decreases-loop-k
 decreases-loop entries memo₀ sets terms count k₀ memo k = count - k
 
 -- the group is one of twelve
-inside : (c : tie.In-loop invariant-loop decreases-loop) → c.before.loop.k < max_terms
-inside c = omega (arith, c.loop-test.true, c.before.before.before.before.before.requires.0.1)
+inside : (c : tie.In-loop-k invariant-loop decreases-loop) → c.loop-k.k < max_terms
+inside c = omega (arith, c.loop-k-test.true, c.requires.0.1)
 
-returns : tie.Need-returns invariant-loop decreases-loop
+returns : tie.Need-returns-then-not-has_mask invariant-loop decreases-loop
 returns c =
-    let turn = c.before.before.before.before.before in
-    let l = turn.before in
-    let s = l.before.before.before.before in
-    let asked = c.before.before.before.has-mask in
-    ((λ e. (l.loop.k, turn.loop-test.true, not_there (mask_of_group s.args.entries.now s.args.sets _) (sym asked.ensures.0 ∙ not-true asked.result c.if1.true))), asked.ensures.1)
+    let turn = c in
+    let l = turn in
+    let s = l in
+    let asked = c.has_mask in
+    ((λ e. (l.loop-k.k, turn.loop-k-test.true, not_there (mask_of_group s.args.entries.now s.args.sets _) (sym asked.ensures.0 ∙ not-true asked.result c.if-not-has_mask.true))), asked.ensures.1)
 
 pub each_has_mask_spec : {M : Type 1} → statement M
 each_has_mask_spec =
@@ -35,15 +35,15 @@ each_has_mask_spec =
     (tie.spec
     invariant-loop
     decreases-loop
-    (λ c. (omega arith, c.before.before.before.requires.1.0))
+    (λ c. (omega arith, c.requires.1.0))
     (λ c. search rules)
     (λ c. omega (arith, inside c))
     (λ c. omega (arith, inside c))
-    (λ c κs. let l = c.before.before in let s = l.before.before.before.before in (s.requires.0.0, (l.loop.invariant.1, s.requires.1.1.small l.loop.k c.before.loop-test.true)))
-    (λ c. c.before.before.before.has-mask.ensures.1.long ∙ sym c.before.before.before.before.before.before.before.before.before.before.requires.1.0.long)
+    (λ c κs. let l = c in let s = l in (s.requires.0.0, (l.loop-k.invariant.1, s.requires.1.1.small l.loop-k.k c.loop-k-test.true)))
+    (λ c. c.has_mask.ensures.1.long ∙ sym c.requires.1.0.long)
     returns
     (λ c. search rules)
     (λ c. search rules)
-    (λ c. (omega arith, c.before.before.before.has-mask.ensures.1))
-    (λ c. c.before.loop.invariant.1.long ∙ sym c.before.before.before.before.before.requires.1.0.long)
-    (λ c. ((λ e. absurd (true≢false e)), c.before.loop.invariant.1)))
+    (λ c. (omega arith, c.has_mask.ensures.1))
+    (λ c. c.loop-k.invariant.1.long ∙ sym c.requires.1.0.long)
+    (λ c. ((λ e. absurd (true≢false e)), c.loop-k.invariant.1)))

@@ -5,17 +5,17 @@ use Rattle.search.proofs.SearchedLaws.{searched_accepted, searched_refused}
 use Rattle.search.proofs.searches.search.Statement.{statement}
 use Rattle.search.proofs.searches.search.Tie as tie
 
-returns : tie.Need-returns
+returns : tie.Need-returns-in-Refused
 returns c =
-    let a = c.before.before.before.before.before.before.args in
-    let check = c.before.before.before.before.check-rows in
-    searched_refused a.terms a.sets a.rows.now c.without-model.result check.result check.ensures _ c.before.before.refusal.given.1 c.without-model.ensures
+    let a = c.args in
+    let check = c.check_rows in
+    searched_refused a.terms a.sets a.rows.now c.without_model.result check.result check.ensures _ c.in-Refused.is c.without_model.ensures
 
-returns-2 : tie.Need-returns-2
+returns-2 : tie.Need-returns-in-Accepted
 returns-2 c =
-    let a = c.before.before.before.before.before.args in
-    let check = c.before.before.before.check-rows in
-    searched_accepted a.terms a.sets a.rows.now c.search-accepted.result check.result check.ensures c.before.enum_told.given.1 c.search-accepted.ensures
+    let a = c.args in
+    let check = c.check_rows in
+    searched_accepted a.terms a.sets a.rows.now c.search_accepted.result check.result check.ensures c.in-Accepted.is c.search_accepted.ensures
 
 pub search_spec : {M : Type 1} → statement M
 search_spec =
@@ -25,6 +25,6 @@ search_spec =
     (λ c. search rules)
     (λ c κs. search rules)
     (λ c. search rules)
-    (λ c κs. sym c.before.before.check-rows.ensures ∙ c.enum_told.given.1)
+    (λ c κs. sym c.check_rows.ensures ∙ c.in-Accepted.is)
     returns
     returns-2)

@@ -22,9 +22,9 @@ use Rattle.search.proofs.searches.search_entries.Tie as tie
 
 place-requires : tie.Need-place-requires
 place-requires c κs =
-    let s = c.before.before.before in
+    let s = c in
     let a = s.args in
-    let asked = c.before.terms-asked in
+    let asked = c.terms_asked in
     let all : a.terms ≡ 0 + a.terms = omega arith in (
       record {
         few_sets = s.requires.0.1;
@@ -37,8 +37,8 @@ place-requires c κs =
 
 returns : tie.Need-returns
 returns c =
-    let a = c.before.before.before.before.before.args in
-    answer_first a.terms a.sets a.entries.now c.before.place.result c.before.place.ensures.0
+    let a = c.args in
+    answer_first a.terms a.sets a.entries.now c.place.result c.place.ensures.0
 
 pub search_entries_spec : {M : Type 1} → statement M
 search_entries_spec = tie.close (tie.spec (λ c κs. search rules) (λ c. search rules) place-requires returns)

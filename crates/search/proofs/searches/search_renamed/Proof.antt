@@ -15,19 +15,19 @@ use Rattle.search.specs.Renamings.{new_name}
 use Rattle.search.proofs.searches.search_renamed.Statement.{statement}
 use Rattle.search.proofs.searches.search_renamed.Tie as tie
 
-search-entries-requires : tie.Need-search-entries-requires
+search-entries-requires : tie.Need-search_entries-requires
 search-entries-requires c κs =
-    let s = c.before.before.before.before.before.before.before in
+    let s = c in
     let a = s.args in
     let kept = rows_keep a.terms a.sets a.rows.now s.requires.0 in
     let declared = rows_declared_too a.terms a.sets (new_name a.to) s.requires.1.1 (map row_of a.rows.now) (all_declared a.terms a.sets a.rows.now kept.all_good) in
-    ((kept.few_terms, kept.few_sets), subst T (sym (c.before.before.before.gather.ensures.0.says (row_declared a.terms a.sets))) declared)
+    ((kept.few_terms, kept.few_sets), subst T (sym (c.gather-count.ensures.0.says (row_declared a.terms a.sets))) declared)
 
 returns : tie.Need-returns
 returns c =
-    let a = c.before.before.before.before.before.before.before.before.args in
-    let gathered = c.before.before.before.before.gather.ensures in
-    (c.search-entries.ensures ∙ ap answer_of (first_model_same fits (2 ^ a.sets) _ _ gathered.0.says a.terms), gathered.1)
+    let a = c.args in
+    let gathered = c.gather-count.ensures in
+    (c.search_entries.ensures ∙ ap answer_of (first_model_same fits (2 ^ a.sets) _ _ gathered.0.says a.terms), gathered.1)
 
 pub search_renamed_spec : {M : Type 1} → statement M
 search_renamed_spec =
@@ -35,7 +35,7 @@ search_renamed_spec =
     (tie.spec
     (λ c κs. search rules)
     (λ c. search rules)
-    (λ c. sym (length-take-le _ _ c.before.before.before.gather.ensures.0.few))
+    (λ c. sym (length-take-le _ _ c.gather-count.ensures.0.few))
     search-entries-requires
     (λ c. search rules)
     returns)

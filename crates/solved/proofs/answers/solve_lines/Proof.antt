@@ -8,22 +8,22 @@ use Rattle.solved.proofs.answers.solve_lines.Statement.{statement}
 use Rattle.solved.proofs.answers.solve_lines.Tie as tie
 
 -- what was read
-is : (c : tie.After-read-lines) → let a = c.before.before.before.before.args in c.read_lines.result ≡ lines_read (variables_of a.q) a.lines.now
-is c = let a = c.before.before.before.before.args in c.read_lines.ensures ∙ ap (λ n. lines_read n a.lines.now) c.before.variables.ensures
+is : (c : tie.After-read_lines-read) → let a = c.args in c.read_lines-read.result ≡ lines_read (variables_of a.q) a.lines.now
+is c = let a = c.args in c.read_lines-read.ensures ∙ ap (λ n. lines_read n a.lines.now) c.variables.ensures
 
-returns : tie.Need-returns
+returns : tie.Need-returns-in-Refused
 returns c =
-    let r = c.before.before.before in
-    let a = r.before.before.before.before.args in
-    let all = lines_refused a.q a.lines.now a.buf.now (is r) c.before.outcome.given.1 in
+    let r = c in
+    let a = r.args in
+    let all = lines_refused a.q a.lines.now a.buf.now (is r.before.before.before) c.in-Refused.is in
     (sym all.0, sym all.1)
 
-returns-2 : tie.Need-returns-2
+returns-2 : tie.Need-returns-in-Accepted
 returns-2 c =
-    let s = c.before.before.solve-reading in
-    let r = c.before.before.before.before.before.before.before in
-    let a = r.before.before.before.before.args in
-    let all = lines_accepted a.q a.lines.now a.buf.now (is r) c.before.before.before.before.before.enum_told.given.1 in
+    let s = c.solve_reading in
+    let r = c in
+    let a = r.args in
+    let all = lines_accepted a.q a.lines.now a.buf.now (is r.before.before.before.before.before.before.before) c.in-Accepted.is in
     (s.ensures.0 ∙ sym all.0, s.ensures.1 ∙ sym all.1)
 
 pub solve_lines_spec : {M : Type 1} → statement M

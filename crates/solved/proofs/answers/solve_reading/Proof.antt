@@ -5,11 +5,11 @@ use Rattle.solved.proofs.JudgingLaws.{reading_valued}
 use Rattle.solved.proofs.answers.solve_reading.Statement.{statement}
 use Rattle.solved.proofs.answers.solve_reading.Tie as tie
 
-returns : tie.Need-returns
+returns : tie.Need-returns-in-Valued
 returns c =
-    let v = c.before.before.solve-values in
-    let a = c.before.before.before.before.before.before.before.args in
-    let all = reading_valued a.q a.said a.buf.now c.before.before.before.before.enum_told.given.1 in
+    let v = c.solve_values in
+    let a = c.args in
+    let all = reading_valued a.q a.said a.buf.now c.in-Valued.is in
     (v.ensures.0 ∙ sym all.0, v.ensures.1 ∙ sym all.1)
 
 pub solve_reading_spec : {M : Type 1} → statement M

@@ -10,15 +10,15 @@ use Rattle.solved.proofs.answers.variables.Statement.{statement}
 use Rattle.solved.proofs.answers.variables.Tie as tie
 
 -- the number of the spare
-is : (c : tie.After-spare-variable) → c.spare-variable.result ≡ variables_of c.before.before.args.q
-is c = let q = c.before.before.args.q in c.spare-variable.ensures ∙ ap (λ n. spare_variable n q.sets) c.before.terms.ensures
+is : (c : tie.After-spare_variable) → c.spare_variable.result ≡ variables_of c.args.q
+is c = let q = c.args.q in c.spare_variable.ensures ∙ ap (λ n. spare_variable n q.sets) c.terms-count.ensures
 
 pub variables_spec : {M : Type 1} → statement M
 variables_spec =
     tie.close
     (tie.spec
     (λ c κs. search rules)
-    (λ c. let s = c.before in omega (arith, c.terms.ensures, (few s.args.q s.requires).0))
+    (λ c. let s = c in omega (arith, c.terms-count.ensures, (few s.args.q s.requires).0))
     (λ c κs. search rules)
-    (λ c. let s = c.before.before in omega (arith, is c, variables_few s.args.q s.requires))
+    (λ c. let s = c in omega (arith, is c, variables_few s.args.q s.requires))
     is)

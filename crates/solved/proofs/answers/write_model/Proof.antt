@@ -7,8 +7,8 @@ use Rattle.solved.proofs.answers.write_model.Tie as tie
 
 returns : tie.Need-returns
 returns c =
-    let w = c.before.before.before.write-answer in
-    (c.as-solved.ensures ∙ ap as_solved w.ensures.0, w.ensures.1)
+    let w = c.write_answer in
+    (c.as_solved.ensures ∙ ap as_solved w.ensures.0, w.ensures.1)
 
 pub write_model_spec : {M : Type 1} → statement M
 write_model_spec = tie.close (tie.spec (λ c κs. search rules) (λ c κs. search rules) (λ c. search rules) returns)

@@ -12,41 +12,41 @@ use Rattle.solved.proofs.ModelLaws.{joined_from, joined_none, joined_all, joined
 use Rattle.solved.proofs.models.class_said.Statement.{statement}
 use Rattle.solved.proofs.models.class_said.Tie as tie
 
-abbrev invariant-loop : tie.invariant-loop
+abbrev invariant-loop : tie.invariant-loop-c
 invariant-loop said terms d used numbers class₀ c₀ class c = (c ≤ d) × (class ≡ class_by numbers used (joined_from terms (truth_of said.values) d c))
 
-abbrev decreases-loop : tie.decreases-loop
+abbrev decreases-loop : tie.decreases-loop-c
 decreases-loop said terms d used numbers class₀ c₀ class c = c
 
-loop-holds : tie.Need-loop-init invariant-loop decreases-loop
+loop-holds : tie.Need-loop-c-init invariant-loop decreases-loop
 loop-holds c =
     let a = c.args in
     (omega arith, sym (ap (class_by a.t4 a.used) (joined_none a.terms (truth_of a.said.values) a.d)))
 
-loop-again : tie.Need-loop-preserved invariant-loop decreases-loop
+loop-again : tie.Need-loop-c-preserved-then-is_true invariant-loop decreases-loop
 loop-again c =
-    let l = c.before.before.before.before.loop in
-    let a = c.before.before.before.before.before.args in
+    let l = c.loop-c in
+    let a = c.args in
     let truth : Truth = truth_of a.said.values in
-    let taken = c.before.before.before.loop-test.true in
-    let yes_it_is : truth (pair_variable a.terms 0 (l.c - 1) a.d) ≡ true = sym (c.before.is_true.ensures ∙ ap truth c.before.before.pair-variable.ensures) ∙ c.if1.true in
+    let taken = c.loop-c-test.true in
+    let yes_it_is : truth (pair_variable a.terms 0 (l.c - 1) a.d) ≡ true = sym (c.is_true.ensures ∙ ap truth c.pair_variable.ensures) ∙ c.if-is_true.true in
     (omega arith, sym (ap (class_by a.t4 a.used) (joined_hit a.terms truth a.d l.c taken l.invariant.0 yes_it_is)))
 
-loop-again-2 : tie.Need-loop-preserved-2 invariant-loop decreases-loop
+loop-again-2 : tie.Need-loop-c-preserved invariant-loop decreases-loop
 loop-again-2 c =
-    let l = c.before.before.before.before.loop in
-    let a = c.before.before.before.before.before.args in
+    let l = c.loop-c in
+    let a = c.args in
     let truth : Truth = truth_of a.said.values in
-    let taken = c.before.before.before.loop-test.true in
-    let no_it_is_not : truth (pair_variable a.terms 0 (l.c - 1) a.d) ≡ false = sym (c.before.is_true.ensures ∙ ap truth c.before.before.pair-variable.ensures) ∙ c.if1.false in
+    let taken = c.loop-c-test.true in
+    let no_it_is_not : truth (pair_variable a.terms 0 (l.c - 1) a.d) ≡ false = sym (c.is_true.ensures ∙ ap truth c.pair_variable.ensures) ∙ c.if-is_true.false in
     (omega arith, l.invariant.1 ∙ sym (ap (class_by a.t4 a.used) (joined_miss a.terms truth a.d l.c taken l.invariant.0 no_it_is_not)))
 
 returns : tie.Need-returns invariant-loop decreases-loop
 returns c =
-    let l = c.before.loop in
-    let a = c.before.before.args in
+    let l = c.loop-c in
+    let a = c.args in
     let truth : Truth = truth_of a.said.values in
-    let first : l.c ≡ 0 = omega (arith, c.loop-test.false) in
+    let first : l.c ≡ 0 = omega (arith, c.loop-c-test.false) in
     l.invariant.1 ∙ ap (λ i. class_by a.t4 a.used (joined_from a.terms truth a.d i)) first ∙ ap (class_by a.t4 a.used) (joined_all a.terms truth a.d)
 
 pub class_said_spec : {M : Type 1} → statement M

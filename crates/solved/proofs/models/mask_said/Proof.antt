@@ -14,42 +14,42 @@ use Rattle.solved.proofs.ModelLaws.{power_most, mask_none, mask_hit, mask_miss}
 use Rattle.solved.proofs.models.mask_said.Statement.{statement}
 use Rattle.solved.proofs.models.mask_said.Tie as tie
 
-abbrev invariant-loop : tie.invariant-loop
+abbrev invariant-loop : tie.invariant-loop-x
 invariant-loop said terms sets c mask₀ bit₀ x₀ mask bit x = (x ≤ sets) × (bit ≡ 2 ^ x) × (mask ≡ mask_up_to terms sets (truth_of said.values) x c)
 
-abbrev decreases-loop : tie.decreases-loop
+abbrev decreases-loop : tie.decreases-loop-x
 decreases-loop said terms sets c mask₀ bit₀ x₀ mask bit x = sets - x
 
-add_mask : tie.Need-overflow-add-mask invariant-loop decreases-loop
+add_mask : tie.Need-overflow_add-mask invariant-loop decreases-loop
 add_mask c =
-    let l = c.before.before.before.before.loop in
-    let s = c.before.before.before.before.before in
+    let l = c.loop-x in
+    let s = c in
     let a = s.args in
     omega (arith, l.invariant.1, l.invariant.2, power_most l.x (omega arith), mask_below a.terms a.sets (truth_of a.said.values) l.x a.c)
 
-mul_bit : tie.Need-overflow-mul-bit invariant-loop decreases-loop
+mul_bit : tie.Need-overflow_mul-bit invariant-loop decreases-loop
 mul_bit c =
-    let l = c.before.before.before.before.loop in
+    let l = c.loop-x in
     omega (arith, l.invariant.1, power_most l.x (omega arith))
 
-loop-again : tie.Need-loop-preserved invariant-loop decreases-loop
+loop-again : tie.Need-loop-x-preserved invariant-loop decreases-loop
 loop-again c =
-    let l = c.before.before.before.before.loop in
-    let a = c.before.before.before.before.before.args in
+    let l = c.loop-x in
+    let a = c.args in
     let truth : Truth = truth_of a.said.values in
-    let said : c.before.is_true.result ≡ truth (in_variable a.terms a.sets a.c l.x) = c.before.is_true.ensures ∙ ap truth c.before.before.in-variable.ensures in
-    let next : c.if1.mask ≡ mask_up_to a.terms a.sets truth (l.x + 1) a.c =
+    let said : c.is_true.result ≡ truth (in_variable a.terms a.sets a.c l.x) = c.is_true.ensures ∙ ap truth c.in_variable.ensures in
+    let next : c.if-is_true.mask ≡ mask_up_to a.terms a.sets truth (l.x + 1) a.c =
     ⊎_elim
     (λ x. x.1 ∙ mask_hit a.terms a.sets truth a.c l.x l.mask l.bit l.invariant.2 l.invariant.1 (sym said ∙ x.0.taken))
     (λ x. x.1 ∙ mask_miss a.terms a.sets truth a.c l.x l.mask l.invariant.2 (sym said ∙ x.0.left))
-    c.if1.branch in
+    c.if-is_true.branch-raw in
     (omega arith, rw (add-one l.x) (omega (arith, l.invariant.1)), next)
 
 returns : tie.Need-returns invariant-loop decreases-loop
 returns c =
-    let l = c.before.loop in
-    let a = c.before.before.args in
-    let all : l.x ≡ a.sets = omega (arith, l.invariant.0, c.loop-test.false) in
+    let l = c.loop-x in
+    let a = c.args in
+    let all : l.x ≡ a.sets = omega (arith, l.invariant.0, c.loop-x-test.false) in
     l.invariant.2 ∙ ap (λ x. mask_up_to a.terms a.sets (truth_of a.said.values) x a.c) all
 
 pub mask_said_spec : {M : Type 1} → statement M

@@ -10,25 +10,25 @@ use Rattle.solved.proofs.PlacingLaws.{no_terms}
 use Rattle.solved.proofs.models.model_said.Statement.{statement}
 use Rattle.solved.proofs.models.model_said.Tie as tie
 
-abbrev invariant-loop : tie.invariant-loop
+abbrev invariant-loop : tie.invariant-loop-d
 invariant-loop said terms sets m₀ d₀ m d = (d ≤ terms) × (m ≡ said_as (placed_up_to terms sets (truth_of said.values) d))
 
-abbrev decreases-loop : tie.decreases-loop
+abbrev decreases-loop : tie.decreases-loop-d
 decreases-loop said terms sets m₀ d₀ m d = terms - d
 
-loop-holds : tie.Need-loop-init invariant-loop decreases-loop
+loop-holds : tie.Need-loop-d-init invariant-loop decreases-loop
 loop-holds c = (omega arith, no_terms _ _ _)
 
-place-requires : tie.Need-place-requires invariant-loop decreases-loop
-place-requires c κs = (c.before.before.requires.1, omega (arith, c.before.before.requires.0, c.loop-test.true), c.before.loop.invariant.1)
+place-requires : tie.Need-place-m-requires invariant-loop decreases-loop
+place-requires c κs = (c.requires.1, omega (arith, c.requires.0, c.loop-d-test.true), c.loop-d.invariant.1)
 
-loop-again : tie.Need-loop-preserved invariant-loop decreases-loop
-loop-again c = (omega arith, rw (add-one c.before.before.loop.d) c.place.ensures)
+loop-again : tie.Need-loop-d-preserved invariant-loop decreases-loop
+loop-again c = (omega arith, rw (add-one c.loop-d.d) c.place-m.ensures)
 
 returns : tie.Need-returns invariant-loop decreases-loop
 returns c =
-    let l = c.before.loop in
-    let a = c.before.before.args in
+    let l = c.loop-d in
+    let a = c.args in
     l.invariant.1 ∙ ap (λ d. said_as (placed_up_to a.terms a.sets (truth_of a.said.values) d)) (omega arith)
 
 pub model_said_spec : {M : Type 1} → statement M

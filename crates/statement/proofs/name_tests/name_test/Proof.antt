@@ -3,38 +3,38 @@ use borrow.Author.Rules.{rules}
 use Rattle.statement.proofs.name_tests.name_test.Statement.{statement}
 use Rattle.statement.proofs.name_tests.name_test.Tie as tie
 
-returns : tie.Need-returns
-returns c = rw c.before.before.s.given.1 c.two-names.ensures
+returns : tie.Need-returns-in-ElementsEqual
+returns c = rw c.in-ElementsEqual.is c.two_names.ensures
 
-returns-2 : tie.Need-returns-2
-returns-2 c = rw c.before.before.s2.given.1 c.two-names2.ensures
+returns-2 : tie.Need-returns-in-ElementsDiffer
+returns-2 c = rw c.in-ElementsDiffer.is c.two_names-in-ElementsDiffer.ensures
 
-returns-3 : tie.Need-returns-3
-returns-3 c = rw c.before.before.s3.given.1 c.two-names3.ensures
+returns-3 : tie.Need-returns-in-In
+returns-3 c = rw c.in-In.is c.two_names-in-In.ensures
 
-returns-4 : tie.Need-returns-4
-returns-4 c = rw c.before.before.s4.given.1 c.two-names4.ensures
+returns-4 : tie.Need-returns-in-NotIn
+returns-4 c = rw c.in-NotIn.is c.two_names-in-NotIn.ensures
 
-returns-5 : tie.Need-returns-5
-returns-5 c = rw c.before.before.s5.given.1 c.two-names5.ensures
+returns-5 : tie.Need-returns-in-SetsEqual
+returns-5 c = rw c.in-SetsEqual.is c.two_names-in-SetsEqual.ensures
 
-returns-6 : tie.Need-returns-6
-returns-6 c = rw c.before.before.s6.given.1 c.two-names6.ensures
+returns-6 : tie.Need-returns-in-SetsDiffer
+returns-6 c = rw c.in-SetsDiffer.is c.two_names-in-SetsDiffer.ensures
 
-returns-7 : tie.Need-returns-7
-returns-7 c = rw c.before.before.s7.given.1 c.one_name.ensures
+returns-7 : tie.Need-returns-in-Empty
+returns-7 c = rw c.in-Empty.is c.one_name.ensures
 
-returns-8 : tie.Need-returns-8
-returns-8 c = rw c.before.before.s8.given.1 c.two-names7.ensures
+returns-8 : tie.Need-returns-in-Single
+returns-8 c = rw c.in-Single.is c.two_names-in-Single.ensures
 
-returns-9 : tie.Need-returns-9
-returns-9 c = rw c.before.before.s9.given.1 c.three-names.ensures
+returns-9 : tie.Need-returns-in-Union
+returns-9 c = rw c.in-Union.is c.three_names.ensures
 
-returns-10 : tie.Need-returns-10
-returns-10 c = rw c.before.before.s10.given.1 c.three-names2.ensures
+returns-10 : tie.Need-returns-in-Intersection
+returns-10 c = rw c.in-Intersection.is c.three_names-in-Intersection.ensures
 
-returns-11 : tie.Need-returns-11
-returns-11 c = rw c.before.before.s11.given.1 c.three-names3.ensures
+returns-11 : tie.Need-returns-in-Difference
+returns-11 c = rw c.in-Difference.is c.three_names-in-Difference.ensures
 
 pub name_test_spec : {M : Type 1} → statement M
 name_test_spec =

@@ -3,17 +3,17 @@ use borrow.Author.Tests.{lt-ltb, le-ltb}
 use Rattle.statement.proofs.name_tests.three_names.Statement.{statement}
 use Rattle.statement.proofs.name_tests.three_names.Tie as tie
 
-returns : tie.Need-returns
-returns c = simp (le-ltb _ _ c.if1.true)
+returns : tie.Need-returns-then-n-x
+returns c = simp (le-ltb _ _ c.if-n-x.true)
 
-returns-2 : tie.Need-returns-2
-returns-2 c = simp (lt-ltb _ _ c.before.if1.false, le-ltb _ _ c.if2.true)
+returns-2 : tie.Need-returns-then-n-y
+returns-2 c = simp (lt-ltb _ _ c.if-n-x.false, le-ltb _ _ c.if-n-y.true)
 
-returns-3 : tie.Need-returns-3
-returns-3 c = simp (lt-ltb _ _ c.before.before.if1.false, lt-ltb _ _ c.before.if2.false, le-ltb _ _ c.if3.true)
+returns-3 : tie.Need-returns-then-n-z
+returns-3 c = simp (lt-ltb _ _ c.if-n-x.false, lt-ltb _ _ c.if-n-y.false, le-ltb _ _ c.if-n-z.true)
 
-returns-4 : tie.Need-returns-4
-returns-4 c = simp (lt-ltb _ _ c.before.before.if1.false, lt-ltb _ _ c.before.if2.false, lt-ltb _ _ c.if3.false)
+returns-4 : tie.Need-returns
+returns-4 c = simp (lt-ltb _ _ c.if-n-x.false, lt-ltb _ _ c.if-n-y.false, lt-ltb _ _ c.if-n-z.false)
 
 pub three_names_spec : {M : Type 1} → statement M
 three_names_spec = tie.close (tie.spec returns returns-2 returns-3 returns-4)

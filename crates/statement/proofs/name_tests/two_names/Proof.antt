@@ -3,14 +3,14 @@ use borrow.Author.Tests.{lt-ltb, le-ltb}
 use Rattle.statement.proofs.name_tests.two_names.Statement.{statement}
 use Rattle.statement.proofs.name_tests.two_names.Tie as tie
 
-returns : tie.Need-returns
-returns c = simp (le-ltb _ _ c.if1.true)
+returns : tie.Need-returns-then-m-x
+returns c = simp (le-ltb _ _ c.if-m-x.true)
 
-returns-2 : tie.Need-returns-2
-returns-2 c = simp (lt-ltb _ _ c.before.if1.false, le-ltb _ _ c.if2.true)
+returns-2 : tie.Need-returns-then-n-y
+returns-2 c = simp (lt-ltb _ _ c.if-m-x.false, le-ltb _ _ c.if-n-y.true)
 
-returns-3 : tie.Need-returns-3
-returns-3 c = simp (lt-ltb _ _ c.before.if1.false, lt-ltb _ _ c.if2.false)
+returns-3 : tie.Need-returns
+returns-3 c = simp (lt-ltb _ _ c.if-m-x.false, lt-ltb _ _ c.if-n-y.false)
 
 pub two_names_spec : {M : Type 1} → statement M
 two_names_spec = tie.close (tie.spec returns returns-2 returns-3)

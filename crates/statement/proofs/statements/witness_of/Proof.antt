@@ -6,13 +6,13 @@ use Rattle.statement.specs.Statements.{tag_of, witness}
 use Rattle.statement.proofs.statements.witness_of.Statement.{statement}
 use Rattle.statement.proofs.statements.witness_of.Tie as tie
 
-returns : tie.Need-returns
+returns : tie.Need-returns-then-tag-eq33
 unfolding witness
-returns c = simp (eq-eqb (tag_of c.before.before.args.s) 0x21 (sym c.before.tag.ensures ∙ c.if1.true))
+returns c = simp (eq-eqb (tag_of c.args.s) 0x21 (sym c.tag-tag.ensures ∙ c.if-tag-eq33.true))
 
-returns-2 : tie.Need-returns-2
+returns-2 : tie.Need-returns-else-tag-eq33
 unfolding witness
-returns-2 c = simp (ne_eqb (tag_of c.before.before.args.s) 0x21 (λ e. c.if1.false (c.before.tag.ensures ∙ e)))
+returns-2 c = simp (ne_eqb (tag_of c.args.s) 0x21 (λ e. c.if-tag-eq33.false (c.tag-tag.ensures ∙ e)))
 
 pub witness_of_spec : {M : Type 1} → statement M
 witness_of_spec = tie.close (tie.spec (λ c κs. search rules) returns returns-2)

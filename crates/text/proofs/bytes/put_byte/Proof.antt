@@ -13,4 +13,4 @@ put_byte_spec =
     (λ c. search rules)
     (λ c. search rules)
     (λ c. search rules)
-    (λ c. sym (set_out _ _ _ (omega (arith, c.if1.false)))))
+    (λ c. sym (set_out _ _ _ (omega (arith, c.if-at-buf.false)))))

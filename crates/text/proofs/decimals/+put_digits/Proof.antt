@@ -30,7 +30,7 @@ put_digits_below t =
     and 1 put-digits-kinds.ps (falls 1 put-digits-kinds.ps ◌<◌ μ_put_digits t) put-digits.Pre
 
 -- src/decimals.rt:30:23
-put_digits_cast_put_byte : (t : ℕ) → put-digits-lts.Need-overflow-cast-put-byte (
+put_digits_cast_put_byte : (t : ℕ) → put-digits-lts.Need-overflow_cast-n (
   put-byte-reads.Asked,
   put-byte-reads.Learnt,
   put_digits_below t,
@@ -39,7 +39,7 @@ put_digits_cast_put_byte : (t : ℕ) → put-digits-lts.Need-overflow-cast-put-b
 put_digits_cast_put_byte t c = search rules
 
 -- src/decimals.rt:30:18
-put_digits_add_put_byte : (t : ℕ) → put-digits-lts.Need-overflow-add-put-byte (
+put_digits_add_put_byte : (t : ℕ) → put-digits-lts.Need-overflow_add-n (
   put-byte-reads.Asked,
   put-byte-reads.Learnt,
   put_digits_below t,
@@ -48,7 +48,7 @@ put_digits_add_put_byte : (t : ℕ) → put-digits-lts.Need-overflow-add-put-byt
 put_digits_add_put_byte t c = search rules
 
 -- src/decimals.rt:30:9
-put-digits-put-byte-requires : (t : ℕ) → put-digits-lts.Need-put-byte-requires (
+put-digits-put-byte-requires : (t : ℕ) → put-digits-lts.Need-put_byte-requires (
   put-byte-reads.Asked,
   put-byte-reads.Learnt,
   put_digits_below t,
@@ -57,7 +57,7 @@ put-digits-put-byte-requires : (t : ℕ) → put-digits-lts.Need-put-byte-requir
 put-digits-put-byte-requires t c κs = search rules
 
 -- src/decimals.rt:31:9
-put_digits_same_length : (t : ℕ) → put-digits-lts.Need-same-length (
+put_digits_same_length : (t : ℕ) → put-digits-lts.Need-shape_of-buf-then-n-lt10 (
   put-byte-reads.Asked,
   put-byte-reads.Learnt,
   put_digits_below t,
@@ -66,29 +66,29 @@ put_digits_same_length : (t : ℕ) → put-digits-lts.Need-same-length (
 put_digits_same_length t c = search rules
 
 -- src/decimals.rt:31:9
-put_digits_returns : (t : ℕ) → put-digits-lts.Need-returns (
+put_digits_returns : (t : ℕ) → put-digits-lts.Need-returns-then-n-lt10 (
   put-byte-reads.Asked,
   put-byte-reads.Learnt,
   put_digits_below t,
   put-digits.Post,
 ) (put_digits_at t) put-digits.Post
 put_digits_returns t c =
-    let d = c.before.before in
-    let e = d.before.before.before.before in
-    let one = digits_one e.args.n e.args.n d.before.before.if1.true in
+    let d = c in
+    let e = d in
+    let one = digits_one e.args.n e.args.n d.if-n-lt10.true in
     (ap length (sym one), d.put_byte.ensures ∙ sym (laid_one e.args.at _ e.args.buf.now) ∙ ap (λ l. laid e.args.at l e.args.buf.now) (sym one))
 
 -- src/decimals.rt:33:9
-put-digits-put-digits-requires : (t : ℕ) → put-digits-lts.Need-put-digits-requires (
+put-digits-put-digits-requires : (t : ℕ) → put-digits-lts.Need-put_digits-tens-requires (
   put-byte-reads.Asked,
   put-byte-reads.Learnt,
   put_digits_below t,
   put-digits.Post,
 ) (put_digits_at t) put-digits.Post
-put-digits-put-digits-requires t c κs = (omega (arith, c.before.if1.false, c.before.before.before.requires.0), c.before.before.before.requires.1)
+put-digits-put-digits-requires t c κs = (omega (arith, c.if-n-lt10.false, c.requires.0), c.requires.1)
 
 -- src/decimals.rt:34:19
-put_digits_cast_put_byte_2 : (t : ℕ) → put-digits-lts.Need-overflow-cast-put-byte-2 (
+put_digits_cast_put_byte_2 : (t : ℕ) → put-digits-lts.Need-overflow_cast-n-2 (
   put-byte-reads.Asked,
   put-byte-reads.Learnt,
   put_digits_below t,
@@ -97,7 +97,7 @@ put_digits_cast_put_byte_2 : (t : ℕ) → put-digits-lts.Need-overflow-cast-put
 put_digits_cast_put_byte_2 t c = search rules
 
 -- src/decimals.rt:34:14
-put_digits_add_put_byte_2 : (t : ℕ) → put-digits-lts.Need-overflow-add-put-byte-2 (
+put_digits_add_put_byte_2 : (t : ℕ) → put-digits-lts.Need-overflow_add-n-2 (
   put-byte-reads.Asked,
   put-byte-reads.Learnt,
   put_digits_below t,
@@ -106,20 +106,20 @@ put_digits_add_put_byte_2 : (t : ℕ) → put-digits-lts.Need-overflow-add-put-b
 put_digits_add_put_byte_2 t c = search rules
 
 -- src/decimals.rt:34:35
-put_digits_add_put_byte_3 : (t : ℕ) → put-digits-lts.Need-overflow-add-put-byte-3 (
+put_digits_add_put_byte_3 : (t : ℕ) → put-digits-lts.Need-overflow_add-at (
   put-byte-reads.Asked,
   put-byte-reads.Learnt,
   put_digits_below t,
   put-digits.Post,
 ) (put_digits_at t) put-digits.Post
 put_digits_add_put_byte_3 t c =
-    let p = c.before.before in
-    let e = p.before.before.before.before in
+    let p = c in
+    let e = p in
     let small : e.args.n < 2 ^ 64 = search rules in
-    omega (arith, p.put-digits.ensures.0, decimal_few (e.args.n / 10), small, e.requires.1)
+    omega (arith, p.put_digits-tens.ensures.0, decimal_few (e.args.n / 10), small, e.requires.1)
 
 -- src/decimals.rt:34:5
-put-digits-put-byte-requires-2 : (t : ℕ) → put-digits-lts.Need-put-byte-requires-2 (
+put-digits-put-byte-requires-2 : (t : ℕ) → put-digits-lts.Need-put_byte-requires-2 (
   put-byte-reads.Asked,
   put-byte-reads.Learnt,
   put_digits_below t,
@@ -128,20 +128,20 @@ put-digits-put-byte-requires-2 : (t : ℕ) → put-digits-lts.Need-put-byte-requ
 put-digits-put-byte-requires-2 t c κs = search rules
 
 -- src/decimals.rt:35:5
-put_digits_add_result : (t : ℕ) → put-digits-lts.Need-overflow-add-result (
+put_digits_add_result : (t : ℕ) → put-digits-lts.Need-overflow_add-result (
   put-byte-reads.Asked,
   put-byte-reads.Learnt,
   put_digits_below t,
   put-digits.Post,
 ) (put_digits_at t) put-digits.Post
 put_digits_add_result t c =
-    let p = c.before.before.before.before.before.before in
-    let e = p.before.before.before.before in
+    let p = c in
+    let e = p in
     let small : e.args.n < 2 ^ 64 = search rules in
-    omega (arith, p.put-digits.ensures.0, decimal_few (e.args.n / 10), small)
+    omega (arith, p.put_digits-tens.ensures.0, decimal_few (e.args.n / 10), small)
 
 -- src/decimals.rt:25:1
-put_digits_same_length_2 : (t : ℕ) → put-digits-lts.Need-same-length-2 (
+put_digits_same_length_2 : (t : ℕ) → put-digits-lts.Need-shape_of-buf (
   put-byte-reads.Asked,
   put-byte-reads.Learnt,
   put_digits_below t,
@@ -150,26 +150,26 @@ put_digits_same_length_2 : (t : ℕ) → put-digits-lts.Need-same-length-2 (
 put_digits_same_length_2 t c = search rules
 
 -- src/decimals.rt:25:1
-put_digits_returns_2 : (t : ℕ) → put-digits-lts.Need-returns-2 (
+put_digits_returns_2 : (t : ℕ) → put-digits-lts.Need-returns (
   put-byte-reads.Asked,
   put-byte-reads.Learnt,
   put_digits_below t,
   put-digits.Post,
 ) (put_digits_at t) put-digits.Post
 put_digits_returns_2 t c =
-    let d = c.before.before in
-    let p = d.before.before.before.before in
-    let e = p.before.before.before.before in
+    let d = c in
+    let p = d in
+    let e = p in
     let n = e.args.n in
-    let more = decimal_more n (omega (arith, p.before.before.if1.false)) in
-    let count = p.put-digits.ensures.0 in (
+    let more = decimal_more n (omega (arith, p.if-n-lt10.false)) in
+    let count = p.put_digits-tens.ensures.0 in (
       omega (arith, count, ap length more, length-append (decimal (n / 10)) (digit (n % 10) ∷ [])),
-      d.put-byte2.ensures ∙ ap₂ (λ l k. set l (e.args.at + k) (digit (n % 10))) p.put-digits.ensures.1 count
+      d.put_byte-2.ensures ∙ ap₂ (λ l k. set l (e.args.at + k) (digit (n % 10))) p.put_digits-tens.ensures.1 count
           ∙ sym (laid_one _ _ _) ∙ laid_behind e.args.at (decimal (n / 10)) (digit (n % 10) ∷ []) e.args.buf.now ∙ ap (λ l. laid e.args.at l e.args.buf.now) (sym more),
     )
 
-pub +put-digits-spec : {M : Type 1} → statement M
-+put-digits-spec = close μ_put_digits λ t. put-digits-lts.spec (
+pub +put_digits_spec : {M : Type 1} → statement M
++put_digits_spec = close μ_put_digits λ t. put-digits-lts.spec (
   put-byte-reads.Asked,
   put-byte-reads.Learnt,
   put_digits_below t,

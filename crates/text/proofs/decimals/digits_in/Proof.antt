@@ -9,48 +9,48 @@ use Rattle.text.proofs.NumberLaws.{below_digits, above_digits, among_digits, dig
 use Rattle.text.proofs.decimals.digits_in.Statement.{statement}
 use Rattle.text.proofs.decimals.digits_in.Tie as tie
 
-abbrev invariant-loop : tie.invariant-loop
+abbrev invariant-loop : tie.invariant-loop-i
 invariant-loop bytes most greatest n₀ i₀ n i = (i ≤ length bytes) × (n ≤ most) × (digits_from 0 bytes ≡ digits_from n (drop i bytes))
 
-abbrev decreases-loop : tie.decreases-loop
+abbrev decreases-loop : tie.decreases-loop-i
 decreases-loop bytes most greatest n₀ i₀ n i = length bytes - i
 
 -- what was said so far, put before what follows
-returns : tie.Need-returns invariant-loop decreases-loop
+returns : tie.Need-returns-then-b-lt-ZERO invariant-loop decreases-loop
 returns c =
-    let a = c.before.before.before.before.args in
-    let l = c.before.before.before.loop in
-    sym (ap (up_to a.most) l.invariant.2 ∙ digits_stop a.most l.n a.bytes.now l.i c.before.before.loop-test.true (below_digits _ c.if1.true))
+    let a = c.args in
+    let l = c.loop-i in
+    sym (ap (up_to a.most) l.invariant.2 ∙ digits_stop a.most l.n a.bytes.now l.i c.loop-i-test.true (below_digits _ c.if-b-lt-ZERO.true))
 
-returns-2 : tie.Need-returns-2 invariant-loop decreases-loop
+returns-2 : tie.Need-returns-then-b-gt-NINE invariant-loop decreases-loop
 returns-2 c =
-    let a = c.before.before.before.before.before.args in
-    let l = c.before.before.before.before.loop in
-    sym (ap (up_to a.most) l.invariant.2 ∙ digits_stop a.most l.n a.bytes.now l.i c.before.before.before.loop-test.true (above_digits _ c.if2.true))
+    let a = c.args in
+    let l = c.loop-i in
+    sym (ap (up_to a.most) l.invariant.2 ∙ digits_stop a.most l.n a.bytes.now l.i c.loop-i-test.true (above_digits _ c.if-b-gt-NINE.true))
 
 -- one digit more
-next : (c : tie.Else2 invariant-loop decreases-loop) →
-    let a = c.before.before.before.before.before.args in
-    let l = c.before.before.before.before.loop in
+next : (c : tie.Else-b-gt-NINE invariant-loop decreases-loop) →
+    let a = c.args in
+    let l = c.loop-i in
     digits_from 0 a.bytes.now ≡ digits_from (l.n * 10 + (get_or a.bytes.now l.i 0 - digit 0)) (drop (l.i + 1) a.bytes.now)
 next c =
-    let a = c.before.before.before.before.before.args in
-    let l = c.before.before.before.before.loop in
-    l.invariant.2 ∙ digits_next a.most l.n a.bytes.now l.i c.before.before.before.loop-test.true (among_digits _ c.before.if1.false c.if2.false)
+    let a = c.args in
+    let l = c.loop-i in
+    l.invariant.2 ∙ digits_next a.most l.n a.bytes.now l.i c.loop-i-test.true (among_digits _ c.if-b-lt-ZERO.false c.if-b-gt-NINE.false)
 
-returns-3 : tie.Need-returns-3 invariant-loop decreases-loop
+returns-3 : tie.Need-returns-then-greatest-n invariant-loop decreases-loop
 returns-3 c =
-    let a = c.before.before.before.before.before.before.args in
-    sym (ap (up_to a.most) (next c.before) ∙ digits_above a.most _ _ c.if3.true)
+    let a = c.args in
+    sym (ap (up_to a.most) (next c.before) ∙ digits_above a.most _ _ c.if-greatest-n.true)
 
-loop-again : tie.Need-loop-preserved invariant-loop decreases-loop
-loop-again c = (omega (arith, c.before.before.before.before.loop-test.true), c.if3.false, next c.before)
+loop-again : tie.Need-loop-i-preserved invariant-loop decreases-loop
+loop-again c = (omega (arith, c.loop-i-test.true), c.if-greatest-n.false, next c.before)
 
-returns-4 : tie.Need-returns-4 invariant-loop decreases-loop
+returns-4 : tie.Need-returns invariant-loop decreases-loop
 returns-4 c =
-    let a = c.before.before.args in
-    let l = c.before.loop in
-    sym (ap (up_to a.most) l.invariant.2 ∙ digits_end a.most l.n a.bytes.now l.i c.loop-test.false l.invariant.1)
+    let a = c.args in
+    let l = c.loop-i in
+    sym (ap (up_to a.most) l.invariant.2 ∙ digits_end a.most l.n a.bytes.now l.i c.loop-i-test.false l.invariant.1)
 
 pub digits_in_spec : {M : Type 1} → statement M
 digits_in_spec =

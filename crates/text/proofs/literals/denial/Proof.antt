@@ -6,8 +6,8 @@ use Rattle.text.specs.Literals.{denial}
 use Rattle.text.proofs.literals.denial.Statement.{statement}
 use Rattle.text.proofs.literals.denial.Tie as tie
 
-returns-3 : tie.Need-returns-3
-returns-3 c = sym (ap denial c.before.before.n.given.1 ∙ rw (ne_eqb _ _ c.if1.false))
+returns-3 : tie.Need-returns-else-v-eq0
+returns-3 c = sym (ap denial c.in-Said.is ∙ rw (ne_eqb _ _ c.if-v-eq0.false))
 
 pub denial_spec : {M : Type 1} → statement M
 denial_spec = tie.close (tie.spec (λ c. search rules) (λ c. search rules) (λ c. search rules) (λ c. search rules) returns-3)

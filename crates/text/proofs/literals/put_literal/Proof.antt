@@ -14,29 +14,29 @@ use Rattle.text.proofs.DigitLaws.{decimal_short}
 use Rattle.text.proofs.literals.put_literal.Statement.{statement}
 use Rattle.text.proofs.literals.put_literal.Tie as tie
 
-add_result : tie.Need-overflow-add-result
+add_result : tie.Need-overflow_add-result
 add_result c =
-    let e = c.before.before.before.before.before.before.before.before.before.before in
+    let e = c in
     let small : e.args.l.variable < 2 ^ 64 = search rules in
-    omega (arith, c.before.before.put-digits.ensures.0, decimal_short e.args.l.variable, small)
+    omega (arith, c.put_digits.ensures.0, decimal_short e.args.l.variable, small)
 
-returns : tie.Need-returns
+returns : tie.Need-returns-then-l
 returns c =
-    let d = c.before.before in
-    let b = d.before.before.before.before in
-    let e = b.before.before.before.before in
-    let text : literal_text e.args.l ≡ minus ∷ decimal e.args.l.variable = ap (λ b. cond b (minus ∷ []) [] ++ decimal e.args.l.variable) b.before.before.if1.true in (
-      omega (arith, d.put-digits.ensures.0, ap length text),
-      d.put-digits.ensures.1 ∙ ap (λ l. laid (e.args.at + 1) (decimal e.args.l.variable) l) b.put_byte.ensures
+    let d = c in
+    let b = d in
+    let e = b in
+    let text : literal_text e.args.l ≡ minus ∷ decimal e.args.l.variable = ap (λ b. cond b (minus ∷ []) [] ++ decimal e.args.l.variable) b.if-l.true in (
+      omega (arith, d.put_digits.ensures.0, ap length text),
+      d.put_digits.ensures.1 ∙ ap (λ l. laid (e.args.at + 1) (decimal e.args.l.variable) l) b.put_byte.ensures
           ∙ sym (laid_first e.args.at minus (decimal e.args.l.variable) e.args.buf.now) ∙ ap (λ t. laid e.args.at t e.args.buf.now) (sym text),
     )
 
-returns-2 : tie.Need-returns-2
+returns-2 : tie.Need-returns
 returns-2 c =
-    let d = c.before.before in
-    let e = d.before.before.before.before in
-    let text : literal_text e.args.l ≡ decimal e.args.l.variable = ap (λ b. cond b (minus ∷ []) [] ++ decimal e.args.l.variable) d.before.before.if1.false in
-    (d.put-digits2.ensures.0 ∙ ap length (sym text), d.put-digits2.ensures.1 ∙ ap (λ t. laid e.args.at t e.args.buf.now) (sym text))
+    let d = c in
+    let e = d in
+    let text : literal_text e.args.l ≡ decimal e.args.l.variable = ap (λ b. cond b (minus ∷ []) [] ++ decimal e.args.l.variable) d.if-l.false in
+    (d.put_digits-2.ensures.0 ∙ ap length (sym text), d.put_digits-2.ensures.1 ∙ ap (λ t. laid e.args.at t e.args.buf.now) (sym text))
 
 pub put_literal_spec : {M : Type 1} → statement M
 put_literal_spec =

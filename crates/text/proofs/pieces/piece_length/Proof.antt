@@ -8,29 +8,29 @@ use Rattle.text.proofs.UntilLaws.{until_here, until_next, until_end}
 use Rattle.text.proofs.pieces.piece_length.Statement.{statement}
 use Rattle.text.proofs.pieces.piece_length.Tie as tie
 
-abbrev invariant-loop : tie.invariant-loop
+abbrev invariant-loop : tie.invariant-loop-i
 invariant-loop bytes separator i₀ i = (i ≤ length bytes) × (length (until separator bytes) ≡ i + length (until separator (drop i bytes)))
 
-abbrev decreases-loop : tie.decreases-loop
+abbrev decreases-loop : tie.decreases-loop-i
 decreases-loop bytes separator i₀ i = length bytes - i
 
-returns : tie.Need-returns invariant-loop decreases-loop
+returns : tie.Need-returns-then-bytes-i invariant-loop decreases-loop
 returns c =
-    let a = c.before.before.before.before.args in
-    let l = c.before.before.before.loop in
-    omega (arith, l.invariant.1, until_here a.separator a.bytes.now l.i (omega (arith, c.before.before.loop-test.true)) c.if1.true)
+    let a = c.args in
+    let l = c.loop-i in
+    omega (arith, l.invariant.1, until_here a.separator a.bytes.now l.i (omega (arith, c.loop-i-test.true)) c.if-bytes-i.true)
 
-loop-again : tie.Need-loop-preserved invariant-loop decreases-loop
+loop-again : tie.Need-loop-i-preserved invariant-loop decreases-loop
 loop-again c =
-    let a = c.before.before.before.before.args in
-    let l = c.before.before.before.loop in
-    (omega arith, omega (arith, l.invariant.1, until_next a.separator a.bytes.now l.i (omega (arith, c.before.before.loop-test.true)) c.if1.false))
+    let a = c.args in
+    let l = c.loop-i in
+    (omega arith, omega (arith, l.invariant.1, until_next a.separator a.bytes.now l.i (omega (arith, c.loop-i-test.true)) c.if-bytes-i.false))
 
-returns-2 : tie.Need-returns-2 invariant-loop decreases-loop
+returns-2 : tie.Need-returns invariant-loop decreases-loop
 returns-2 c =
-    let a = c.before.before.args in
-    let l = c.before.loop in
-    omega (arith, l.invariant.1, until_end a.separator a.bytes.now l.i (omega (arith, c.loop-test.false)))
+    let a = c.args in
+    let l = c.loop-i in
+    omega (arith, l.invariant.1, until_end a.separator a.bytes.now l.i (omega (arith, c.loop-i-test.false)))
 
 pub piece_length_spec : {M : Type 1} → statement M
 piece_length_spec =

@@ -3,11 +3,11 @@ use borrow.Author.Rules.{rules}
 use Rattle.field.proofs.tags.BodyLength.is_allowed.Statement.{statement}
 use Rattle.field.proofs.tags.BodyLength.is_allowed.Tie as tie
 
-returns-2 : tie.Need-returns-2
-returns-2 c = rw c.before.self.given.1
+returns-2 : tie.Need-returns-in-Fixed
+returns-2 c = rw c.in-Fixed.is
 
-returns-3 : tie.Need-returns-3
-returns-3 c = rw c.enum-told2.given.1
+returns-3 : tie.Need-returns-in-Depends
+returns-3 c = rw c.in-Depends.is
 
 pub is_allowed_spec : {M : Type 1} → statement M
 is_allowed_spec =

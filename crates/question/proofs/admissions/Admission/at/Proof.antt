@@ -6,14 +6,14 @@ use Rattle.question.specs.Admissions.{admitted_at}
 use Rattle.question.proofs.admissions.Admission.at.Statement.{statement}
 use Rattle.question.proofs.admissions.Admission.at.Tie as tie
 
-returns-2 : tie.Need-returns-2
-returns-2 c = ap Refused c.new.ensures ∙ sym (ap (admitted_at _) c.before.enum-told2.given.1)
+returns-2 : tie.Need-returns-in-TooManyStatements
+returns-2 c = ap Refused c.new.ensures ∙ sym (ap (admitted_at _) c.in-TooManyStatements.is)
 
-returns-3 : tie.Need-returns-3
-returns-3 c = ap Refused c.new2.ensures ∙ sym (ap (admitted_at _) c.before.enum-told3.given.1)
+returns-3 : tie.Need-returns-in-Undeclared
+returns-3 c = ap Refused c.new-in-Undeclared.ensures ∙ sym (ap (admitted_at _) c.in-Undeclared.is)
 
-returns-4 : tie.Need-returns-4
-returns-4 c = ap Refused c.new3.ensures ∙ sym (ap (admitted_at _) c.before.enum-told4.given.1)
+returns-4 : tie.Need-returns-in-TooManyTerms
+returns-4 c = ap Refused c.new-in-TooManyTerms.ensures ∙ sym (ap (admitted_at _) c.in-TooManyTerms.is)
 
 pub at_spec : {M : Type 1} → statement M
 at_spec =
