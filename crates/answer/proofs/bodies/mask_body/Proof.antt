@@ -21,7 +21,7 @@ decreases-loop classes masks body₀ k₀ body k = classes - k
 loop-again : tie.Need-loop-k-preserved invariant-loop decreases-loop
 loop-again c =
     let l = c.loop-k in
-    let masks = c.args.t1 in
+    let masks = c.args.masks in
     let long : length masks ≡ 12 = search rules in
     let less = c.loop-k-test.true in
     let at = l.k * mask_bytes in

@@ -75,8 +75,8 @@ read-masks-requires c κs =
     let n = c in
     let s = n in
     let l = take s.args.terms (drop (s.args.at + head_length) s.args.bytes.now) in
-    let k = counted l _ (count n.before.before.before ∙ c.in-Classes.is) in
-    omega (arith, k.1, classes_few l k.0, size n.before.before.before.before.before.before, s.requires)
+    let k = counted l _ (count n.before ∙ c.in-Classes.is) in
+    omega (arith, k.1, classes_few l k.0, size n.before.before.before.before, s.requires)
 
 returns : tie.Need-returns-in-Refused
 returns c =
@@ -88,17 +88,17 @@ returns-2 c =
     let n = c in
     let a = n.args in
     let l = take a.terms (drop (a.at + head_length) a.bytes.now) in
-    c.refuse-in-Against.ensures ∙ sym (numbers_against a.terms a.bound a.bytes.now a.at _ _ (sound n.before.before.before.before.before.before) (against l (count n.before.before.before ∙ c.in-Against.is)))
+    c.refuse-in-Against.ensures ∙ sym (numbers_against a.terms a.bound a.bytes.now a.at _ _ (sound n.before.before.before.before.before) (against l (count n.before.before ∙ c.in-Against.is)))
 
 returns-3 : tie.Need-returns-in-Classes
 returns-3 c =
     let n = c in
     let f = n in
     let a = f.args in
-    let k = counted (take a.terms (drop (a.at + head_length) a.bytes.now)) _ (count n.before.before.before.before ∙ c.in-Classes.is) in
+    let k = counted (take a.terms (drop (a.at + head_length) a.bytes.now)) _ (count n.before.before ∙ c.in-Classes.is) in
     c.read_masks.ensures
-    ∙ ap₂ (masks_read a.bound a.bytes.now (a.at + head_length + f.in-Sound.n)) (numbers n.before.before.before.before.before) k.1
-    ∙ sym (numbers_good a.terms a.bound a.bytes.now a.at _ _ (sound f.before.before.before.before.before.before.before) k.0)
+    ∙ ap₂ (masks_read a.bound a.bytes.now (a.at + head_length + f.in-Sound.n)) (numbers n.before.before.before) k.1
+    ∙ sym (numbers_good a.terms a.bound a.bytes.now a.at _ _ (sound f.before.before.before.before.before) k.0)
 
 pub read_numbers_spec : {M : Type 1} → statement M
 read_numbers_spec =
@@ -118,7 +118,7 @@ read_numbers_spec =
     (λ c. search rules)
     (λ c κs. search rules)
     (λ c. search rules)
-    (λ c. omega (arith, (room c.before.before.before.before.before.before).0))
+    (λ c. omega (arith, (room c.before.before.before.before).0))
     read-masks-requires
     returns
     returns-2

@@ -43,14 +43,14 @@ model c =
 returns : tie.Need-returns-in-Impossible
 returns c =
     let a = c.args in
-    ends c.before.before ∙ sym (ap (λ s. length (file_of s)) (said_none a.terms a.a c.in-Impossible.is) ∙ none_length)
+    ends c.before ∙ sym (ap (λ s. length (file_of s)) (said_none a.terms a.a c.in-Impossible.is) ∙ none_length)
 
 returns-2 : tie.Need-returns-in-Possible
 returns-2 c =
     let s = c in
     let a = s.args in
     let whole = ap (λ s. length (file_of s)) (said_some a.terms a.a a.classes c.in-Possible.is s.requires.2) ∙ some_length (cut_to a.terms a.classes a.a) in
-    omega (arith, ends c.before.before.before.before, model c, (sizes c).0, (sizes c).1, whole)
+    omega (arith, ends c.before.before.before, model c, (sizes c).0, (sizes c).1, whole)
 
 pub file_length_spec : {M : Type 1} → statement M
 file_length_spec =
@@ -64,7 +64,7 @@ file_length_spec =
     (λ c κs. search rules)
     (λ c. search rules)
     (λ c κs. search rules)
-    (λ c. omega (arith, ends c.before.before.before.before, model c))
-    (λ c. omega (arith, ends c.before.before.before.before, model c))
+    (λ c. omega (arith, ends c.before.before.before, model c))
+    (λ c. omega (arith, ends c.before.before.before, model c))
     returns
     returns-2)

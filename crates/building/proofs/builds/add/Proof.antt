@@ -23,11 +23,11 @@ told c x e =
 
 returns-2 : tie.Need-returns-in-Refused
 unfolding added_to
-returns-2 c = rw (told c.before.before.before _ c.in-Refused.is)
+returns-2 c = rw (told c.before _ c.in-Refused.is)
 
 returns-3 : tie.Need-returns-in-Accepted
 unfolding added_to
-returns-3 c = rw (told c.before.before _ c.in-Accepted.is)
+returns-3 c = rw (told c.before _ c.in-Accepted.is)
 
 pub add_spec : {M : Type 1} → statement M
 add_spec =

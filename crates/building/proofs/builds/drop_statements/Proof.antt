@@ -23,7 +23,7 @@ decreases-loop i n q count rest₀ j₀ rest j = 64 - j
 loop-again : tie.Need-loop-j-preserved invariant-loop decreases-loop
 loop-again c =
     let l = c in
-    let q = l.args.t1 in
+    let q = l.args.q in
     let i = l.args.i in
     let n = l.args.n in
     let j = l.loop-j.j in
@@ -41,14 +41,14 @@ loop-again c =
 returns : tie.Need-returns-after-loop-j invariant-loop decreases-loop
 returns c =
     let l = c in
-    let q = l.args.t1 in
+    let q = l.args.q in
     let long : length q.table ≡ 64 = search table_long in
     l.loop-j.invariant.2 long ∙ kept_all q l.args.i l.args.n long l.loop-j.j (omega (arith, statements_length q, long))
 
 returns-2 : tie.Need-returns-then-count-j invariant-loop decreases-loop
 returns-2 c =
     let l = c in
-    let q = l.args.t1 in
+    let q = l.args.q in
     let long : length q.table ≡ 64 = search table_long in
     l.loop-j.invariant.2 long ∙ kept_all q l.args.i l.args.n long l.loop-j.j (omega (arith, statements_length q, c.if-count-j.true))
 
@@ -59,7 +59,7 @@ drop_statements_spec =
     invariant-loop
     decreases-loop
     (λ c κs. search rules)
-    (λ c. (omega arith, omega (arith, ap (λ x. x.count) c.declare-rest.ensures), λ long. c.declare-rest.ensures ∙ sym (kept_none c.args.t1 c.args.i c.args.n long)))
+    (λ c. (omega arith, omega (arith, ap (λ x. x.count) c.declare-rest.ensures), λ long. c.declare-rest.ensures ∙ sym (kept_none c.args.q c.args.i c.args.n long)))
     (λ c κs. search rules)
     (λ c. search rules)
     (λ c. search rules)

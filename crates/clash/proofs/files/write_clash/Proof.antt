@@ -31,7 +31,7 @@ front : (c : tie.In-Count) →
 front c =
     let s = c in
     let e = s in
-    at_front (file_of (answer e.args.q)) (replicate 49 0) s.write_answer.new.buf _ (sym (answered s.before.before.before.before).0 ∙ c.in-Count.is) (answered s.before.before.before.before).1
+    at_front (file_of (answer e.args.q)) (replicate 49 0) s.write_answer.new.buf _ (sym (answered s.before.before).0 ∙ c.in-Count.is) (answered s.before.before).1
 
 -- and the indexes of the part in front of the array
 inside : (c : tie.In-Count) → let e = c in e.args.found.part.count ≤ length e.args.found.indexes
@@ -44,7 +44,7 @@ returns : tie.Need-returns-in-Refused
 returns c =
     let s = c in
     let e = s in
-    never_refused (file_of (answer e.args.q)) (replicate 49 0) (answer_fits e.args.q e.requires.0 e.args.found e.requires.1) (answered s.before.before.before.before).0 c.in-Refused.is
+    never_refused (file_of (answer e.args.q)) (replicate 49 0) (answer_fits e.args.q e.requires.0 e.args.found e.requires.1) (answered s.before.before).0 c.in-Refused.is
 
 returns-2 : tie.Need-returns-in-Count
 returns-2 c =

@@ -21,7 +21,7 @@ abbrev decreases-loop : tie.decreases-loop-left
 decreases-loop q m n count left₀ left = left
 
 -- the index lies among the statements
-index : (c : tie.In-loop-left invariant-loop decreases-loop) → let count = c.statement_count-count.result in count - c.loop-left.left < length (statements c.args.t1)
+index : (c : tie.In-loop-left invariant-loop decreases-loop) → let count = c.statement_count-count.result in count - c.loop-left.left < length (statements c.args.q)
 index c = omega (arith, c.statement_count-count.ensures.0, c.loop-left.invariant.0, c.loop-left-test.true)
 
 -- the whole, at a turn: the arrays that are lent are those of the model
@@ -48,13 +48,13 @@ loop-again c =
     let next : count - l.loop-left.left + 1 ≡ count - (l.loop-left.left - 1) = omega (arith, l.loop-left.invariant.0, c.loop-left-test.true) in (
       omega arith,
       rw (not-false c.does_hold.result c.if-not-does_hold.false) at (turned c.before)
-          ∙ ap (failing_from (holds (assigned l.args.t2)) l.args.t1) next,
+          ∙ ap (failing_from (holds (assigned l.args.m)) l.args.q) next,
     )
 
 returns-2 : tie.Need-returns invariant-loop decreases-loop
 returns-2 c =
     let l = c in
-    sym (l.loop-left.invariant.1 ∙ failing_end _ l.args.t1 _ (omega (arith, l.statement_count-count.ensures.0, c.loop-left-test.false)))
+    sym (l.loop-left.invariant.1 ∙ failing_end _ l.args.q _ (omega (arith, l.statement_count-count.ensures.0, c.loop-left-test.false)))
 
 pub first_failing_spec : {M : Type 1} → statement M
 first_failing_spec =

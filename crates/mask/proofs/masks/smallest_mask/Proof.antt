@@ -60,7 +60,7 @@ decided c =
 
 -- where a bit is raised: the walk that failed, and the bit
 abbrev walked : tie.In-Next invariant-entries decreases-entries invariant-masks decreases-masks → tie.At-entries invariant-entries decreases-entries invariant-masks decreases-masks
-walked c = walk c.before.before.before.before.before.before.before
+walked c = walk c.before.before.before.before.before
 
 abbrev raised_bit : tie.In-Next invariant-entries decreases-entries invariant-masks decreases-masks → ℕ
 raised_bit c = c.in-Next.q
@@ -81,14 +81,14 @@ larger c =
 masks_again : tie.Need-masks-preserved invariant-entries decreases-entries invariant-masks decreases-masks
 masks_again c =
     let k = c in
-    let w = walked k in
+    let w = walked k.before.before.before.before.before in
     let l = w.before in
     let a = (given l).args in
     let e = c.raise-m.ensures in
     let t = rw k.in-Next.is at k.next_mask.ensures in
     let n = c.note_up_to-noted in
     let met = meets_raised l.before.width.result a.class a.entries.now l.masks.m _ w.entries.i n.result (raised_bit k.before.before.before.before.before) c.back_to-i.result w.entries.inv n.ensures.1 n.ensures.0 t.0 t.1 c.back_to-i.ensures.0 c.back_to-i.ensures.1 in
-    ((larger c.before.before.before.before).1, rw e (t.2 (meets_all (rows_of_entries a.entries.now) a.class) l.masks.inv.1 (decided k.before.before.before.before.before.before.before.before.before.before)), rw e met, n.ensures.1)
+    ((larger c.before.before.before.before).1, rw e (t.2 (meets_all (rows_of_entries a.entries.now) a.class) l.masks.inv.1 (decided k.before.before.before.before.before.before.before.before)), rw e met, n.ensures.1)
 
 returns : tie.Need-returns-then-i-entries invariant-entries decreases-entries invariant-masks decreases-masks
 returns c =
@@ -104,10 +104,10 @@ returns c =
 returns-2 : tie.Need-returns-in-Over invariant-entries decreases-entries invariant-masks decreases-masks
 returns-2 c =
     let k = c in
-    let l = (walk k.before.before.before.before.before.before).before in
+    let l = (walk k.before.before.before.before.before).before in
     let a = (given l).args in
     let t = rw (c.in-Over.is, l.before.width.ensures) at c.next_mask.ensures in
-    sym (ap smallest_of (least_mask_one (2 ^ min a.sets 32) (rows_of_entries a.entries.now) a.class none (t (meets_all (rows_of_entries a.entries.now) a.class) l.masks.inv.1 (decided k.before.before.before.before))))
+    sym (ap smallest_of (least_mask_one (2 ^ min a.sets 32) (rows_of_entries a.entries.now) a.class none (t (meets_all (rows_of_entries a.entries.now) a.class) l.masks.inv.1 (decided k.before.before.before))))
 
 pub smallest_mask_spec : {M : Type 1} → statement M
 smallest_mask_spec =

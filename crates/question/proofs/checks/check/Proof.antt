@@ -15,15 +15,15 @@ names c x e = sym c.check_names.ensures ∙ e
 
 returns : tie.Need-returns-then-q-gt-MAX_STATEMENTS
 unfolding checked
-returns c = rw (names c.before.before.before.before.before _ c.in-Accepted.is, lt-ltb max_statements _ c.if-q-gt-MAX_STATEMENTS.true) (ap Refused c.new.ensures)
+returns c = rw (names c.before.before.before.before _ c.in-Accepted.is, lt-ltb max_statements _ c.if-q-gt-MAX_STATEMENTS.true) (ap Refused c.new.ensures)
 
 returns-2 : tie.Need-returns-in-Refused
 unfolding checked
-returns-2 c = rw (names c.before.before.before _ c.in-Refused.is)
+returns-2 c = rw (names c.before _ c.in-Refused.is)
 
 returns-3 : tie.Need-returns-else-q-gt-MAX_STATEMENTS
 unfolding checked
-returns-3 c = rw (names c.before.before.before.before.before _ c.in-Accepted.is, le-ltb max_statements _ c.if-q-gt-MAX_STATEMENTS.false) c.check_statements.ensures
+returns-3 c = rw (names c.before.before.before.before _ c.in-Accepted.is, le-ltb max_statements _ c.if-q-gt-MAX_STATEMENTS.false) c.check_statements.ensures
 
 pub check_spec : {M : Type 1} → statement M
 check_spec =

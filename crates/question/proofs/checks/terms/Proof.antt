@@ -21,7 +21,7 @@ few c = rw c.witness_of-total.ensures (witness_small _)
 loop-again : tie.Need-loop-i-preserved invariant-loop decreases-loop
 loop-again c =
     let l = c in
-    let q = l.args.t1 in
+    let q = l.args.q in
     let long : length q.table ≡ 64 = search table_long in (
       omega arith,
       omega (arith, few c),
@@ -32,14 +32,14 @@ loop-again c =
 returns : tie.Need-returns-after-loop-i invariant-loop decreases-loop
 returns c =
     let l = c in
-    let q = l.args.t1 in
+    let q = l.args.q in
     let long : length q.table ≡ 64 = search table_long in
     sym (l.loop-i.invariant.2 ∙ terms_end q l.loop-i.i l.loop-i.total (statements_full q l.loop-i.i (omega arith)))
 
 returns-2 : tie.Need-returns-then-count-i invariant-loop decreases-loop
 returns-2 c =
     let l = c in
-    let q = l.args.t1 in
+    let q = l.args.q in
     sym (l.loop-i.invariant.2 ∙ terms_end q l.loop-i.i l.loop-i.total (statements_end q l.loop-i.i c.if-count-i.true))
 
 pub terms_spec : {M : Type 1} → statement M
@@ -49,7 +49,7 @@ terms_spec =
     invariant-loop
     decreases-loop
     (λ c. search rules)
-    (λ c. (omega arith, omega arith, terms_start c.args.t1))
+    (λ c. (omega arith, omega arith, terms_start c.args.q))
     (λ c. search rules)
     (λ c. search rules)
     (λ c κs. search rules)

@@ -25,13 +25,13 @@ fixed_same : {m n : ℕ} → Fixed m ≡ Fixed n → m ≡ n
 fixed_same e = cc
 
 returns : tie.Need-returns-in-Unknown
-returns c = unknown_fixed (sym c.in-Unknown.is ∙ listed c.before.before)
+returns c = unknown_fixed (sym c.in-Unknown.is ∙ listed c.before)
 
 returns-2 : tie.Need-returns-in-Fixed
-returns-2 c = fixed_same (sym c.in-Fixed.is ∙ listed c.before.before.before)
+returns-2 c = fixed_same (sym c.in-Fixed.is ∙ listed c.before)
 
 returns-3 : tie.Need-returns-in-Depends
-returns-3 c = depends_fixed (sym c.in-Depends.is ∙ listed c.before.before)
+returns-3 c = depends_fixed (sym c.in-Depends.is ∙ listed c.before)
 
 pub body_length_spec : {M : Type 1} → statement M
 body_length_spec = tie.close (tie.spec (λ c κs. search rules) (λ c κs. search rules) (λ c. search rules) (λ c. search rules) (λ c. search rules) returns returns-2 returns-3)

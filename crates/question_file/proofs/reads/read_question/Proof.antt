@@ -36,14 +36,14 @@ returns c =
     let f = c in
     let l = f.loop-elements in
     let said = c.in-Names in
-    c.refuse_file.ensures ∙ sym (stop_reached _ l.at l.q l.invariant.0 _ (step f.before.before.before.before.before.before.before.before _ said.is ∙ put_names_refused l.at l.q said.next said.elements said.sets _ (sym c.check_names.ensures ∙ c.in-Refused-check_names.is)))
+    c.refuse_file.ensures ∙ sym (stop_reached _ l.at l.q l.invariant.0 _ (step f.before.before.before.before _ said.is ∙ put_names_refused l.at l.q said.next said.elements said.sets _ (sym c.check_names.ensures ∙ c.in-Refused-check_names.is)))
 
 loop-less : tie.Need-loop-elements-smaller-in-Names invariant-loop decreases-loop
 loop-less c =
     let f = c in
     let l = f.loop-elements in
     let said = c.in-Names in
-    let m = moved _ l.at l.q l.invariant.0 _ _ (step f.before.before.before.before.before.before.before _ said.is ∙ put_names l.at l.q said.next said.elements said.sets (sym c.check_names.ensures ∙ c.in_default.is)) in
+    let m = moved _ l.at l.q l.invariant.0 _ _ (step f.before.before.before.before _ said.is ∙ put_names l.at l.q said.next said.elements said.sets (sym c.check_names.ensures ∙ c.in_default.is)) in
     omega (arith, m.0, m.1)
 
 loop-again : tie.Need-loop-elements-preserved-in-Names invariant-loop decreases-loop
@@ -53,7 +53,7 @@ loop-again c =
     let checked = sym c.check_names.ensures ∙ c.in_default.is in
     let said = c.in-Names in
     rw c.declare-q.ensures
-    (more_reached _ l.at l.q l.invariant.0 _ _ (step f.before.before.before.before.before.before.before _ said.is ∙ put_names l.at l.q said.next said.elements said.sets checked), kept_names _ _ (names_keep l.at said.elements said.sets checked).0)
+    (more_reached _ l.at l.q l.invariant.0 _ _ (step f.before.before.before.before _ said.is ∙ put_names l.at l.q said.next said.elements said.sets checked), kept_names _ _ (names_keep l.at said.elements said.sets checked).0)
 
 -- a statement: what the test of it came to, where T is kept by adding
 tested : (c : tie.After-at invariant-loop decreases-loop) (x : Check) → c.at.result ≡ x → let l = c.loop-elements in added_at l.at l.q c.in-Stated.s ≡ x
@@ -65,11 +65,11 @@ returns-2 : tie.Need-returns-in-Refused-at invariant-loop decreases-loop
 returns-2 c =
     let f = c in
     let l = f.loop-elements in
-    c.refuse_file-in-Refused-at.ensures ∙ sym (stop_reached _ l.at l.q l.invariant.0 _ (step f.before.before.before.before.before.before.before.before.before _ c.in-Stated.is ∙ put_stated_refused l.at l.q _ _ _ (tested c.before.before.before.before _ c.in-Refused-at.is)))
+    c.refuse_file-in-Refused-at.ensures ∙ sym (stop_reached _ l.at l.q l.invariant.0 _ (step f.before.before.before.before.before _ c.in-Stated.is ∙ put_stated_refused l.at l.q _ _ _ (tested c.before.before _ c.in-Refused-at.is)))
 
 -- a statement that is accepted
 accepted : (c : tie.After-witness_of-total invariant-loop decreases-loop) → let l = c.loop-elements in added_at l.at l.q c.in-Stated.s ≡ Accepted
-accepted c = tested c.before.before.before _ c.in_default-at.is
+accepted c = tested c.before.before _ c.in_default-at.is
 
 has_room : tie.Need-bounds-q-count invariant-loop decreases-loop
 has_room c = let l = c.loop-elements in added_room l.at l.q _ (accepted c)
@@ -78,7 +78,7 @@ loop-less-2 : tie.Need-loop-elements-smaller invariant-loop decreases-loop
 loop-less-2 c =
     let f = c in
     let l = f.loop-elements in
-    let m = moved _ l.at l.q l.invariant.0 _ _ (step f.before.before.before.before.before.before.before.before _ c.in-Stated.is ∙ put_stated l.at l.q _ _ (accepted c)) in
+    let m = moved _ l.at l.q l.invariant.0 _ _ (step f.before.before.before.before.before _ c.in-Stated.is ∙ put_stated l.at l.q _ _ (accepted c)) in
     omega (arith, m.0, m.1)
 
 loop-again-2 : tie.Need-loop-elements-preserved invariant-loop decreases-loop
@@ -86,27 +86,27 @@ loop-again-2 c =
     let f = c in
     let l = f.loop-elements in
     rw c.witness_of-total.ensures
-    (more_reached _ l.at l.q l.invariant.0 _ _ (step f.before.before.before.before.before.before.before.before _ c.in-Stated.is ∙ put_stated l.at l.q _ _ (accepted c)), kept_more l.q l.total l.invariant.1 _ (has_room c))
+    (more_reached _ l.at l.q l.invariant.0 _ _ (step f.before.before.before.before.before _ c.in-Stated.is ∙ put_stated l.at l.q _ _ (accepted c)), kept_more l.q l.total l.invariant.1 _ (has_room c))
 
 -- 7F: bytes behind it, or none
 returns-3 : tie.Need-returns-then-place-bytes invariant-loop decreases-loop
 returns-3 c =
     let f = c in
     let l = f.loop-elements in
-    c.refuse_file-then-place-bytes.ensures ∙ ap refused_file c.new.ensures ∙ sym (extra_reached _ l.at l.q l.invariant.0 _ (step f.before.before.before.before.before.before _ c.in-Ended.is) c.if-place-bytes.true)
+    c.refuse_file-then-place-bytes.ensures ∙ ap refused_file c.new.ensures ∙ sym (extra_reached _ l.at l.q l.invariant.0 _ (step f.before.before.before.before _ c.in-Ended.is) c.if-place-bytes.true)
 
 returns-4 : tie.Need-returns-in-Ended invariant-loop decreases-loop
 returns-4 c =
     let f = c in
     let l = f.loop-elements in
-    sym (whole_reached _ l.at l.q l.invariant.0 _ (step f.before.before.before.before _ c.in-Ended.is) c.if-place-bytes.false)
+    sym (whole_reached _ l.at l.q l.invariant.0 _ (step f.before.before _ c.in-Ended.is) c.if-place-bytes.false)
 
 -- a frame that is refused
 returns-5 : tie.Need-returns-in-Refused invariant-loop decreases-loop
 returns-5 c =
     let f = c in
     let l = f.loop-elements in
-    c.refuse_file-in-Refused.ensures ∙ ap refused_file c.new-in-Refused.ensures ∙ sym (stop_reached _ l.at l.q l.invariant.0 _ (step f.before.before.before.before.before _ c.in-Refused.is))
+    c.refuse_file-in-Refused.ensures ∙ ap refused_file c.new-in-Refused.ensures ∙ sym (stop_reached _ l.at l.q l.invariant.0 _ (step f.before.before.before _ c.in-Refused.is))
 
 pub read_question_spec : {M : Type 1} → statement M
 read_question_spec =

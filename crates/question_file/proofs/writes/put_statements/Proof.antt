@@ -25,7 +25,7 @@ turned : (c : tie.In-loop-i invariant-loop decreases-loop) →
     Run (statements_bytes (statements q)) a.buf.now (statement_bytes (get_or q.table l.loop-i.i idle).statement ++ bytes_from q (l.loop-i.i + 1)) l.loop-i.buf l.loop-i.at
 turned c =
     let l = c in
-    let q = l.args.t1 in
+    let q = l.args.q in
     let long : length q.table ≡ 64 = search table_long in
     rw (bytes_turn q l.loop-i.i idle c.loop-i-test.true (omega arith)) at l.loop-i.invariant.1
 
@@ -43,7 +43,7 @@ loop-again : tie.Need-loop-i-preserved invariant-loop decreases-loop
 loop-again c =
     let t = c in
     let l = t in
-    let q = l.args.t1 in
+    let q = l.args.q in
     let p = c.put_statement-at in
     let s = (get_or q.table l.loop-i.i idle).statement in
     (omega arith, rw p.ensures.0 (run_on (statement_bytes s) (bytes_from q (l.loop-i.i + 1)) p.new.1.0 (turned t.before.before.before.before.before) p.ensures.1))
@@ -51,7 +51,7 @@ loop-again c =
 returns : tie.Need-returns invariant-loop decreases-loop
 returns c =
     let l = c in
-    run_end (rw (bytes_end l.args.t1 l.loop-i.i c.loop-i-test.false) at l.loop-i.invariant.1)
+    run_end (rw (bytes_end l.args.q l.loop-i.i c.loop-i-test.false) at l.loop-i.invariant.1)
 
 pub put_statements_spec : {M : Type 1} → statement M
 put_statements_spec =

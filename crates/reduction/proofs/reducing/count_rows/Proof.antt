@@ -18,7 +18,7 @@ decreases-loop terms q count total₀ i₀ total i = count - i
 
 loop-holds : tie.Need-loop-i-init invariant-loop decreases-loop
 loop-holds c =
-    let q = c.args.t1 in
+    let q = c.args.q in
     let start = ap (λ t. count_from q t 0) c.requires.0 in
     (search rules, omega (arith, start, packed_count q))
 
@@ -36,7 +36,7 @@ add_total c =
     let l = c in
     let e = l in
     let stated = l.statement_count-count.ensures in
-    omega (arith, turned c, l.loop-i.invariant.1, packed_few e.args.t1 (omega (arith, stated.0, stated.1)) (omega (arith, e.requires.0, e.requires.1)))
+    omega (arith, turned c, l.loop-i.invariant.1, packed_few e.args.q (omega (arith, stated.0, stated.1)) (omega (arith, e.requires.0, e.requires.1)))
 
 loop-again : tie.Need-loop-i-preserved invariant-loop decreases-loop
 loop-again c =

@@ -54,7 +54,7 @@ small : (c : tie.In-loop-i invariant-loop decreases-loop) → c.loop-i.witness <
 small c =
     let l = c in
     let e = l in
-    omega (arith, l.loop-i.invariant.1, terms_start e.args.t1, e.requires.0, e.requires.1, l.statement_count-stated.ensures.1, c.loop-i-test.true)
+    omega (arith, l.loop-i.invariant.1, terms_start e.args.q, e.requires.0, e.requires.1, l.statement_count-stated.ensures.1, c.loop-i-test.true)
 
 few : (c : tie.After-witness_of invariant-loop decreases-loop) → c.witness_of.result ≤ 1
 few c = rw c.witness_of.ensures (witness_small _)

@@ -148,7 +148,7 @@ module _ (t : ℕ) where
   part-requires c κs =
       let turn = c in
       let l = turn in
-      let s = start l in
+      let s = start l.before.before in
       let group = get_or s.args.groups.terms l.loop-k.k 0 in
       let small = joined_small group s.args.ahead.term (room (first l.before.before)) (s.pre.1.1.0.small l.loop-k.k turn.loop-k-test.true) in
       (ready (first l.before.before) l.loop-k.invariant.2, subst (λ n. bit_or group n < group_count) (sym (own_is l.before.before)) small)
@@ -157,8 +157,8 @@ module _ (t : ℕ) where
   in-group-requires c κs =
       let turn = c in
       let l = turn in
-      let e = first l in
-      let s = start l in
+      let e = first l.before.before.before.before.before.before.before.before in
+      let s = start l.before.before.before.before.before.before.before.before in
       let p = s.pre in
       let next = c.with_term-more in (
         omega (arith, some_left e, p.0),
@@ -201,7 +201,7 @@ module _ (t : ℕ) where
   alone-requires : lts.Need-part_fits-requires-2 claims here all-fit.Post invariant-loop decreases-loop
   alone-requires c κs =
       let l = c in
-      let s = start l in
+      let s = start l.before.before in
       (ready (first l.before.before) l.loop-k.invariant.2, subst (λ n. n < group_count) (sym (own_is l.before.before)) (alone_small s.args.ahead.term (room (first l.before.before))))
 
   -- each group was tried, and the term alone is a part of no class
@@ -221,8 +221,8 @@ module _ (t : ℕ) where
   new-group-requires : lts.Need-all_fit-requires-2 claims here all-fit.Post invariant-loop decreases-loop
   new-group-requires c κs =
       let l = c in
-      let e = first l in
-      let s = start l in
+      let e = first l.before.before.before.before.before.before.before.before in
+      let s = start l.before.before.before.before.before.before.before.before in
       let p = s.pre in
       let next = c.with_group-more in (
         omega (arith, some_left e, p.0),

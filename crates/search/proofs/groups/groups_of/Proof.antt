@@ -30,15 +30,15 @@ loop-again c =
     let s = l in
     let next = c.with_term-next in (
       omega arith,
-      groups_more s.args.t1 l.loop-t.groups.terms l.loop-t.t (omega arith) (s.requires.1 l.loop-t.t c.loop-t-test.true) l.loop-t.invariant.1 next.result.terms (ap (λ (g : Groups). g.terms) next.ensures),
-      ap (λ (g : Groups). g.count) next.ensures ∙ count_more s.args.t1 l.loop-t.t l.loop-t.groups.count (omega arith) l.loop-t.invariant.2,
+      groups_more s.args.arrangement l.loop-t.groups.terms l.loop-t.t (omega arith) (s.requires.1 l.loop-t.t c.loop-t-test.true) l.loop-t.invariant.1 next.result.terms (ap (λ (g : Groups). g.terms) next.ensures),
+      ap (λ (g : Groups). g.count) next.ensures ∙ count_more s.args.arrangement l.loop-t.t l.loop-t.groups.count (omega arith) l.loop-t.invariant.2,
     )
 
 returns : tie.Need-returns invariant-loop decreases-loop
 returns c =
     let l = c in
     let all : l.loop-t.t ≡ l.args.terms = omega arith in
-    (subst (λ n. GroupsOf l.args.t1 n l.loop-t.groups.terms) all l.loop-t.invariant.1, l.loop-t.invariant.2 ∙ ap (λ n. classes (take n l.args.t1)) all)
+    (subst (λ n. GroupsOf l.args.arrangement n l.loop-t.groups.terms) all l.loop-t.invariant.1, l.loop-t.invariant.2 ∙ ap (λ n. classes (take n l.args.arrangement)) all)
 
 pub groups_of_spec : {M : Type 1} → statement M
 groups_of_spec =
@@ -46,7 +46,7 @@ groups_of_spec =
     (tie.spec
     invariant-loop
     decreases-loop
-    (λ c. (omega arith, groups_none c.args.t1, refl))
+    (λ c. (omega arith, groups_none c.args.arrangement, refl))
     (λ c. search rules)
     with-term-requires
     (λ c. search rules)

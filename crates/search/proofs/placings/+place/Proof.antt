@@ -134,7 +134,7 @@ module _ (t : ℕ) where
   place-requires : lts.Need-place-r-requires claims here place.Post invariant-loop decreases-loop
   place-requires c κs =
       let l = c in
-      let s = start l in
+      let s = start l.before.before.before in
       let a = s.args in
       let more = c.with_term-grown in (
         fewer a.unplaced.term a.unplaced.left l.if-left-eq0.false t s.pre.0,
@@ -154,7 +154,7 @@ module _ (t : ℕ) where
   called : (c : lts.After-place-r claims here place.Post invariant-loop decreases-loop) → let l = c in let a = (start l.before.before.before.before).args in c.place-r.result ≡ answer_of (found_in a.entries.now a.fixed.sets a.arrangement a.unplaced.term a.unplaced.left a.groups.count l.loop-c.c)
   called c =
       let l = c in
-      let s = start l in
+      let s = start l.before.before.before.before in
       let a = s.args in
       answer_next a.entries.now a.fixed.sets a.arrangement a.unplaced.term a.unplaced.left a.groups.count s.pre.1.1.0 l.loop-c.c c.place-r.result (room_here l.before.before.before.before) c.place-r.ensures.0
 

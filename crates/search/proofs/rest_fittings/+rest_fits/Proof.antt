@@ -130,7 +130,7 @@ module _ (t : ℕ) where
   in-group-requires c κs =
       let turn = c in
       let l = turn in
-      let s = start l in
+      let s = start l.before.before.before.before.before.before.before.before in
       let p = s.pre in
       let next = c.with_term-more in (
         omega (arith, some_left (first l.before.before.before.before.before.before.before.before), p.0),
@@ -147,7 +147,7 @@ module _ (t : ℕ) where
   loop-again c =
       let turn = c in
       let l = turn in
-      let s = start l in
+      let s = start l.before.before.before.before.before.before in
       let a = s.args in
       let known = before a.fixed.asked (all_terms a.ahead) in
       let rows = rows_of_entries a.entries.now in
@@ -173,7 +173,7 @@ module _ (t : ℕ) where
   returns-4 : lts.Need-returns claims here rest-fits.Post invariant-loop decreases-loop
   returns-4 c =
       let l = c in
-      let s = start l in
+      let s = start l.before in
       let a = s.args in
       let known = before a.fixed.asked (all_terms a.ahead) in
       let rows = rows_of_entries a.entries.now in

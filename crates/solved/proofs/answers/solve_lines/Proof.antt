@@ -15,7 +15,7 @@ returns : tie.Need-returns-in-Refused
 returns c =
     let r = c in
     let a = r.args in
-    let all = lines_refused a.q a.lines.now a.buf.now (is r.before.before.before) c.in-Refused.is in
+    let all = lines_refused a.q a.lines.now a.buf.now (is r.before) c.in-Refused.is in
     (sym all.0, sym all.1)
 
 returns-2 : tie.Need-returns-in-Accepted
@@ -23,7 +23,7 @@ returns-2 c =
     let s = c.solve_reading in
     let r = c in
     let a = r.args in
-    let all = lines_accepted a.q a.lines.now a.buf.now (is r.before.before.before.before.before.before.before) c.in-Accepted.is in
+    let all = lines_accepted a.q a.lines.now a.buf.now (is r.before.before.before.before.before.before) c.in-Accepted.is in
     (s.ensures.0 ∙ sym all.0, s.ensures.1 ∙ sym all.1)
 
 pub solve_lines_spec : {M : Type 1} → statement M
