@@ -68,7 +68,7 @@ returns : tie.Need-returns-then-not-all_below
 returns c =
     let k = c in
     let a = k.args in
-    c.refuse-then-not-all_below.ensures ∙ sym (masks_bad a.bound a.bytes.now a.at a.numbers a.classes _ _ (sound k.before.before.before.before.before) (tested c.before.before ∙ not-true _ c.if-not-all_below.true))
+    c.refuse-then-not-all_below.ensures ∙ sym (masks_bad a.bound a.bytes.now a.at a.numbers a.classes _ _ (sound k.before.before.before.before.before) (tested c.before.before ∙ c.if-not-all_below.true))
 
 returns-2 : tie.Need-returns-in-Refused
 returns-2 c =
@@ -81,7 +81,7 @@ returns-3 c =
     let a = k.args in
     c.read_end.ensures
     ∙ ap (λ l. end_read a.bytes.now (a.at + head_length + k.in-Sound.n) (record { verdict = Possible; arrangement = a.numbers; masks = l })) (masks c.before.before.before)
-    ∙ sym (masks_good a.bound a.bytes.now a.at a.numbers a.classes _ _ (sound k.before.before.before.before.before) (tested c.before.before ∙ not-false _ c.if-not-all_below.false))
+    ∙ sym (masks_good a.bound a.bytes.now a.at a.numbers a.classes _ _ (sound k.before.before.before.before.before) (tested c.before.before ∙ c.if-not-all_below.false))
 
 pub read_masks_spec : {M : Type 1} → statement M
 read_masks_spec =

@@ -11,15 +11,15 @@ use Rattle.answer.proofs.writes.put_numbers.Tie as tie
 slice_aggregate_put_field : tie.Need-slice_bounds-put_field-end
 slice_aggregate_put_field c =
     let a = c.args in
-    let long : length a.t1 ≡ 12 = search rules in
-    sym (length-take-le a.terms a.t1 (omega arith))
+    let long : length a.numbers ≡ 12 = search rules in
+    sym (length-take-le a.terms a.numbers (omega arith))
 
 returns : tie.Need-returns
 returns c =
     let a = c.args in
-    let long : length a.t1 ≡ 12 = search rules in
-    let size : length (take a.terms a.t1) ≡ a.terms = length-take-le a.terms a.t1 (omega arith) in
-    let whole = written 0x41 (take a.terms a.t1) a.buf.now (omega arith) (omega arith) in
+    let long : length a.numbers ≡ 12 = search rules in
+    let size : length (take a.terms a.numbers) ≡ a.terms = length-take-le a.terms a.numbers (omega arith) in
+    let whole = written 0x41 (take a.terms a.numbers) a.buf.now (omega arith) (omega arith) in
     let f = c.put_field.ensures in
     (f.0 ∙ whole.0 ∙ omega arith, f.1 ∙ whole.1)
 

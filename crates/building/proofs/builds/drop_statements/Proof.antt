@@ -31,10 +31,10 @@ loop-again c =
     let inside = c.loop-j-test.true in
     let run = c.outside.ensures in (
       omega arith,
-      ⊎_elim (λ x. omega (arith, ap (λ r. r.count) x.2)) (λ x. omega (arith, ap (λ r. r.count) x.1)) c.if-outside.branch-raw,
+      ⊎_elim (λ x. omega (arith, ap (λ r. r.count) x.rest-is)) (λ x. omega (arith, ap (λ r. r.count) x.rest-is)) c.if-outside.branch-raw,
       λ long. ⊎_elim
-          (λ x. x.2 ∙ ap (λ r. added r (get_or q.table j idle).statement) (l.loop-j.invariant.2 long) ∙ ⊎_elim (kept_before q i n long j idle below inside) (kept_behind q i n long j idle below inside) (run.0 x.0.taken))
-          (λ x. let within = run.1 x.0.left in x.1 ∙ l.loop-j.invariant.2 long ∙ kept_inside q i n long j idle below inside within.0 within.1)
+          (λ x. x.rest-is ∙ ap (λ r. added r (get_or q.table j idle).statement) (l.loop-j.invariant.2 long) ∙ ⊎_elim (kept_before q i n long j idle below inside) (kept_behind q i n long j idle below inside) (run.0 x.if-outside.true))
+          (λ x. let within = run.1 x.if-outside.false in x.rest-is ∙ l.loop-j.invariant.2 long ∙ kept_inside q i n long j idle below inside within.0 within.1)
           c.if-outside.branch-raw,
     )
 

@@ -32,12 +32,12 @@ tested c =
 returns : tie.Need-returns-then-not-at_element invariant-loop decreases-loop
 returns c =
     let l = c in
-    sym (walk_fails _ l.args.n l.loop-d.d c.loop-d-test.true (tested c.before ∙ not-true _ c.if-not-at_element.true))
+    sym (walk_fails _ l.args.n l.loop-d.d c.loop-d-test.true (tested c.before ∙ c.if-not-at_element.true))
 
 loop-again : tie.Need-loop-d-preserved invariant-loop decreases-loop
 loop-again c =
     let l = c in
-    (omega arith, walk_more _ l.loop-d.d l.loop-d.invariant.1 (tested c.before ∙ not-false _ c.if-not-at_element.false))
+    (omega arith, walk_more _ l.loop-d.d l.loop-d.invariant.1 (tested c.before ∙ c.if-not-at_element.false))
 
 returns-2 : tie.Need-returns invariant-loop decreases-loop
 returns-2 c =

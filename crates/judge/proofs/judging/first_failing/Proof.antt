@@ -29,17 +29,17 @@ turned : (c : tie.After-does_hold invariant-loop decreases-loop) →
     let l = c in
     let a = l.args in
     let i = l.statement_count-count.result - l.loop-left.left in
-    failing_from (holds (assigned a.t2)) a.t1 0 ≡ cond c.does_hold.result (failing_from (holds (assigned a.t2)) a.t1 (i + 1)) (No i)
+    failing_from (holds (assigned a.m)) a.q 0 ≡ cond c.does_hold.result (failing_from (holds (assigned a.m)) a.q (i + 1)) (No i)
 turned c =
     let l = c in
     let a = l.args in
     let i = l.statement_count-count.result - l.loop-left.left in
-    let f = holds (assigned a.t2) in
-    l.loop-left.invariant.1 ∙ failing_turn f a.t1 i idle (index c.before.before.before.before.before.before)
-    ∙ ap (λ b. cond b (failing_from f a.t1 (i + 1)) (No i)) (sym c.does_hold.ensures)
+    let f = holds (assigned a.m) in
+    l.loop-left.invariant.1 ∙ failing_turn f a.q i idle (index c.before.before.before.before.before.before)
+    ∙ ap (λ b. cond b (failing_from f a.q (i + 1)) (No i)) (sym c.does_hold.ensures)
 
 returns : tie.Need-returns-then-not-does_hold invariant-loop decreases-loop
-returns c = sym (rw (not-true c.does_hold.result c.if-not-does_hold.true) at (turned c.before))
+returns c = sym (rw (c.if-not-does_hold.true) at (turned c.before))
 
 loop-again : tie.Need-loop-left-preserved invariant-loop decreases-loop
 loop-again c =
@@ -47,7 +47,7 @@ loop-again c =
     let count = l.statement_count-count.result in
     let next : count - l.loop-left.left + 1 ≡ count - (l.loop-left.left - 1) = omega (arith, l.loop-left.invariant.0, c.loop-left-test.true) in (
       omega arith,
-      rw (not-false c.does_hold.result c.if-not-does_hold.false) at (turned c.before)
+      rw (c.if-not-does_hold.false) at (turned c.before)
           ∙ ap (failing_from (holds (assigned l.args.m)) l.args.q) next,
     )
 

@@ -9,11 +9,11 @@ use Rattle.judge.proofs.judging.judge_model.Tie as tie
 
 returns : tie.Need-returns-then-not-is_model
 unfolding model_judged
-returns c = rw (sym c.is_model_lem.ensures ∙ not-true c.is_model_lem.result c.if-not-is_model.true) (ap Refused c.new.ensures)
+returns c = rw (sym c.is_model.ensures ∙ c.if-not-is_model.true) (ap Refused c.new.ensures)
 
 returns-2 : tie.Need-returns
 unfolding model_judged
-returns-2 c = rw (sym c.is_model_lem.ensures ∙ not-false c.is_model_lem.result c.if-not-is_model.false) c.first_failing.ensures
+returns-2 c = rw (sym c.is_model.ensures ∙ c.if-not-is_model.false) c.first_failing.ensures
 
 pub judge_model_spec : {M : Type 1} → statement M
 judge_model_spec = tie.close (tie.spec (λ c κs. search rules) (λ c κs. search rules) returns (λ c κs. search rules) returns-2)

@@ -14,14 +14,14 @@ returns c = rw (lt-leb _ max_terms c.if-n-gt-MAX_TERMS.true)
 returns-2 : tie.Need-returns-then-not-elements_inside
 unfolding is_model
 returns-2 c =
-    let outside = not-true c.elements_inside.result c.if-not-elements_inside.true in
+    let outside = c.if-not-elements_inside.true in
     rw (le-leb _ max_terms c.if-n-gt-MAX_TERMS.false, sym c.elements_inside.ensures ∙ outside)
 
 returns-3 : tie.Need-returns
 unfolding is_model
 returns-3 c =
     let t = c in
-    let inside = not-false t.elements_inside.result c.if-not-elements_inside.false in
+    let inside = c.if-not-elements_inside.false in
     rw (le-leb _ max_terms t.if-n-gt-MAX_TERMS.false, sym t.elements_inside.ensures ∙ inside) c.masks_inside.ensures
 
 pub is_model_spec : {M : Type 1} → statement M

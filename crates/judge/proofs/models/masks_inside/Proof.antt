@@ -28,12 +28,12 @@ returns : tie.Need-returns-then-not-below invariant-loop decreases-loop
 unfolding masks_inside
 returns c =
     let l = c in
-    sym (walk_fails _ l.args.n l.loop-d.d c.loop-d-test.true (tested c.before ∙ not-true _ c.if-not-below.true))
+    sym (walk_fails _ l.args.n l.loop-d.d c.loop-d-test.true (tested c.before ∙ c.if-not-below.true))
 
 loop-again : tie.Need-loop-d-preserved invariant-loop decreases-loop
 loop-again c =
     let l = c in
-    (omega arith, walk_more _ l.loop-d.d l.loop-d.invariant.1 (tested c.before ∙ not-false _ c.if-not-below.false))
+    (omega arith, walk_more _ l.loop-d.d l.loop-d.invariant.1 (tested c.before ∙ c.if-not-below.false))
 
 returns-2 : tie.Need-returns invariant-loop decreases-loop
 unfolding masks_inside

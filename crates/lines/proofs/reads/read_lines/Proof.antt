@@ -62,10 +62,10 @@ goes c =
     ∙ ap (λ x. stood_then l.at x (lines_from a.most (l.at + n + 1) x (pieces line_end (drop (l.at + n + 1) a.lines.now)))) (sym c.line_step-r.ensures)
 
 returns-2 : tie.Need-returns-then-not-can_stand invariant-loop decreases-loop
-returns-2 c = c.bad_at-then-not-can_stand.ensures ∙ sym (goes c.before.before.before ∙ fell c.loop-at.at c.line_step-r.result _ (sym c.can_stand.ensures ∙ not-true _ c.if-not-can_stand.true))
+returns-2 c = c.bad_at-then-not-can_stand.ensures ∙ sym (goes c.before.before.before ∙ fell c.loop-at.at c.line_step-r.result _ (sym c.can_stand.ensures ∙ c.if-not-can_stand.true))
 
 loop-again : tie.Need-loop-at-preserved invariant-loop decreases-loop
-loop-again c = (omega (arith, (behind c.before.before.before).1), goes c.before.before ∙ stood c.loop-at.at c.line_step-r.result _ (sym c.can_stand.ensures ∙ not-false _ c.if-not-can_stand.false))
+loop-again c = (omega (arith, (behind c.before.before.before).1), goes c.before.before ∙ stood c.loop-at.at c.line_step-r.result _ (sym c.can_stand.ensures ∙ c.if-not-can_stand.false))
 
 returns-3 : tie.Need-returns invariant-loop decreases-loop
 returns-3 c =

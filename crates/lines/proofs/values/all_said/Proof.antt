@@ -29,13 +29,13 @@ returns : tie.Need-returns-then-not-is_said invariant-loop decreases-loop
 returns c =
     let a = c.args in
     let l = c.loop-v in
-    sym (walk_fails (here a.r) a.most l.v c.loop-v-test.true (at_next a.r l.v ∙ sym c.is_said.ensures ∙ not-true _ c.if-not-is_said.true))
+    sym (walk_fails (here a.r) a.most l.v c.loop-v-test.true (at_next a.r l.v ∙ sym c.is_said.ensures ∙ c.if-not-is_said.true))
 
 loop-again : tie.Need-loop-v-preserved invariant-loop decreases-loop
 loop-again c =
     let a = c.args in
     let l = c.loop-v in
-    (omega (arith, c.loop-v-test.true), walk_more (here a.r) l.v l.invariant.1 (at_next a.r l.v ∙ sym c.is_said.ensures ∙ not-false _ c.if-not-is_said.false))
+    (omega (arith, c.loop-v-test.true), walk_more (here a.r) l.v l.invariant.1 (at_next a.r l.v ∙ sym c.is_said.ensures ∙ c.if-not-is_said.false))
 
 returns-2 : tie.Need-returns invariant-loop decreases-loop
 returns-2 c =

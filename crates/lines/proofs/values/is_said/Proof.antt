@@ -10,8 +10,8 @@ use Rattle.lines.proofs.values.is_said.Tie as tie
 returns : tie.Need-returns-then-v-ge-VALUES
 returns c =
     let a = c.args in
-    let long : length a.t1.values ≡ 260 = search table_long in
-    sym (unsaid_past a.t1.values a.v (omega (arith, c.if-v-ge-VALUES.true)))
+    let long : length a.r.values ≡ 260 = search table_long in
+    sym (unsaid_past a.r.values a.v (omega (arith, c.if-v-ge-VALUES.true)))
 
 pub is_said_spec : {M : Type 1} → statement M
 is_said_spec = tie.close (tie.spec returns (λ c. search rules) (λ c. search rules) (λ c. search rules))

@@ -8,31 +8,31 @@ use Rattle.mask.proofs.blames.blame.Tie as tie
 
 returns : tie.Need-returns-in-0
 unfolding row_of blamed
-returns c = rw (← c.unpack-p.ensures, c.in-0.keys1)
+returns c = rw (← c.unpack-p.ensures, c.in-0.is)
 
 returns-2 : tie.Need-returns-in-1
 unfolding row_of blamed
-returns-2 c = rw (← c.unpack-p.ensures, c.in-1.keys2)
+returns-2 c = rw (← c.unpack-p.ensures, c.in-1.is)
 
 returns-3 : tie.Need-returns-in-2
 unfolding row_of blamed
-returns-3 c = rw (← c.unpack-p.ensures, c.in-2.keys3, c.only-x.ensures)
+returns-3 c = rw (← c.unpack-p.ensures, c.in-2.is, c.only-x.ensures)
 
 returns-4 : tie.Need-returns-in-3
 unfolding row_of blamed
-returns-4 c = rw (← c.unpack-p.ensures, c.in-3.keys4, c.only-x.ensures)
+returns-4 c = rw (← c.unpack-p.ensures, c.in-3.is, c.only-x.ensures)
 
 returns-5 : tie.Need-returns-in-4
 unfolding row_of blamed
-returns-5 c = rw (← c.unpack-p.ensures, c.in-4.keys5, c.only-x.ensures, c.only-y.ensures)
+returns-5 c = rw (← c.unpack-p.ensures, c.in-4.is, c.only-x.ensures, c.only-y.ensures)
 
 returns-6 : tie.Need-returns-in-5
 unfolding row_of blamed
-returns-6 c = rw (← c.unpack-p.ensures, c.in-5.keys6, c.only-x.ensures, c.only-y.ensures)
+returns-6 c = rw (← c.unpack-p.ensures, c.in-5.is, c.only-x.ensures, c.only-y.ensures)
 
 returns-7 : tie.Need-returns-in-6
 unfolding row_of blamed
-returns-7 c = rw (← c.unpack-p.ensures, c.in-6.keys7, c.only-x.ensures)
+returns-7 c = rw (← c.unpack-p.ensures, c.in-6.is, c.only-x.ensures)
 
 returns-8 : tie.Need-returns-in-7
 unfolding row_of blamed
@@ -40,13 +40,13 @@ returns-8 c =
     let k = c in
     rw (
       ← k.unpack-p.ensures,
-      c.in-7.keys8,
+      c.in-7.is,
       ← k.bit-in_x.ensures,
       ← k.bit-in_y.ensures,
       ← k.only-x.ensures,
       ← k.only-y.ensures,
       ← k.only-z.ensures,
-    ) c.two_or_three_lem.ensures
+    ) c.two_or_three.ensures
 
 returns-9 : tie.Need-returns-in-8
 unfolding row_of blamed
@@ -54,7 +54,7 @@ returns-9 c =
     let k = c in
     rw (
       ← k.unpack-p.ensures,
-      c.in-8.keys9,
+      c.in-8.is,
       ← k.bit-in_x.ensures,
       ← k.bit-in_y.ensures,
       ← k.only-x.ensures,
@@ -68,7 +68,7 @@ returns-10 c =
     let k = c in
     rw (
       ← k.unpack-p.ensures,
-      c.in-9.keys10,
+      c.in-9.is,
       ← k.bit-in_x.ensures,
       ← k.bit-in_y.ensures,
       ← k.only-x.ensures,
@@ -80,7 +80,7 @@ returns-11 : tie.Need-returns-in_default
 unfolding row_of blamed
 returns-11 c =
     let p = c.unpack-p.result in
-    rw (← c.unpack-p.ensures, past_kinds p.kind p.first p.second p.third c.in_default.rest)
+    rw (← c.unpack-p.ensures, past_kinds p.kind p.first p.second p.third c.in_default.in_default-own.rest)
 
 pub blame_spec : {M : Type 1} → statement M
 blame_spec =

@@ -8,49 +8,49 @@ use Rattle.mask.proofs.lowest.lowest_set.Tie as tie
 
 returns : tie.Need-returns-in-0
 unfolding row_of lowest_set
-returns c = rw (← c.unpack-p.ensures, c.in-0.keys1)
+returns c = rw (← c.unpack-p.ensures, c.in-0.is)
 
 returns-2 : tie.Need-returns-in-1
 unfolding row_of lowest_set
-returns-2 c = rw (← c.unpack-p.ensures, c.in-1.keys2)
+returns-2 c = rw (← c.unpack-p.ensures, c.in-1.is)
 
 returns-3 : tie.Need-returns-in-2
 unfolding row_of lowest_set
-returns-3 c = rw (← c.unpack-p.ensures, c.in-2.keys3)
+returns-3 c = rw (← c.unpack-p.ensures, c.in-2.is)
 
 returns-4 : tie.Need-returns-in-3
 unfolding row_of lowest_set
-returns-4 c = rw (← c.unpack-p.ensures, c.in-3.keys4)
+returns-4 c = rw (← c.unpack-p.ensures, c.in-3.is)
 
 returns-5 : tie.Need-returns-in-4
 unfolding row_of lowest_set
-returns-5 c = rw (← c.unpack-p.ensures, c.in-4.keys5, c.smaller.ensures)
+returns-5 c = rw (← c.unpack-p.ensures, c.in-4.is, c.smaller.ensures)
 
 returns-6 : tie.Need-returns-in-5
 unfolding row_of lowest_set
-returns-6 c = rw (← c.unpack-p.ensures, c.in-5.keys6, c.smaller-in-5.ensures)
+returns-6 c = rw (← c.unpack-p.ensures, c.in-5.is, c.smaller-in-5.ensures)
 
 returns-7 : tie.Need-returns-in-6
 unfolding row_of lowest_set
-returns-7 c = rw (← c.unpack-p.ensures, c.in-6.keys7)
+returns-7 c = rw (← c.unpack-p.ensures, c.in-6.is)
 
 returns-8 : tie.Need-returns-in-7
 unfolding row_of lowest_set
-returns-8 c = rw (← c.unpack-p.ensures, c.in-7.keys8, c.smaller-in-7-2.ensures, c.smaller-in-7.ensures)
+returns-8 c = rw (← c.unpack-p.ensures, c.in-7.is, c.smaller-in-7-2.ensures, c.smaller-in-7.ensures)
 
 returns-9 : tie.Need-returns-in-8
 unfolding row_of lowest_set
-returns-9 c = rw (← c.unpack-p.ensures, c.in-8.keys9, c.smaller-in-8-2.ensures, c.smaller-in-8.ensures)
+returns-9 c = rw (← c.unpack-p.ensures, c.in-8.is, c.smaller-in-8-2.ensures, c.smaller-in-8.ensures)
 
 returns-10 : tie.Need-returns-in-9
 unfolding row_of lowest_set
-returns-10 c = rw (← c.unpack-p.ensures, c.in-9.keys10, c.smaller-in-9-2.ensures, c.smaller-in-9.ensures)
+returns-10 c = rw (← c.unpack-p.ensures, c.in-9.is, c.smaller-in-9-2.ensures, c.smaller-in-9.ensures)
 
 returns-11 : tie.Need-returns-in_default
 unfolding row_of lowest_set
 returns-11 c =
     let p = c.unpack-p.result in
-    rw (← c.unpack-p.ensures, past_kinds p.kind p.first p.second p.third c.in_default.rest)
+    rw (← c.unpack-p.ensures, past_kinds p.kind p.first p.second p.third c.in_default.in_default-own.rest)
 
 pub lowest_set_spec : {M : Type 1} → statement M
 lowest_set_spec =

@@ -45,7 +45,7 @@ walk c = c.before.before.before.before
 
 -- an entry that the mask meets: the walk goes on behind it
 entries_again : tie.Need-entries-preserved invariant-entries decreases-entries invariant-masks decreases-masks
-entries_again c = let met = c.meets in below_more _ _ c.entries.invariant (sym met.ensures ∙ not-false met.result c.if-not-meets.false)
+entries_again c = let met = c.meets in below_more _ _ c.entries.invariant (sym met.ensures ∙ c.if-not-meets.false)
 
 -- where an entry fails, the bits that are to blame decide
 decided : (c : tie.After-blame-decided invariant-entries decreases-entries invariant-masks decreases-masks) →
@@ -56,7 +56,7 @@ decided c =
     let a = (given l).args in
     let met = c.meets in
     rw (c.blame-decided.ensures, c.row_in.ensures)
-    (walk_decided a.class a.entries.now l.masks.m (walk c.before.before).entries.i c.if-i-entries.false (sym met.ensures ∙ not-true met.result c.if-not-meets.true))
+    (walk_decided a.class a.entries.now l.masks.m (walk c.before.before).entries.i c.if-i-entries.false (sym met.ensures ∙ c.if-not-meets.true))
 
 -- where a bit is raised: the walk that failed, and the bit
 abbrev walked : tie.In-Next invariant-entries decreases-entries invariant-masks decreases-masks → tie.At-entries invariant-entries decreases-entries invariant-masks decreases-masks

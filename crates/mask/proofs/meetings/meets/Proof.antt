@@ -13,7 +13,7 @@ use Rattle.mask.proofs.meetings.meets.Tie as tie
 returns : tie.Need-returns-then-not-is_asked
 returns c =
     let a = c.args in
-    sym (entry_apart a.class a.m a.entry (not_asked a.class a.entry (sym c.is_asked.ensures ∙ not-true c.is_asked.result c.if-not-is_asked.true)))
+    sym (entry_apart a.class a.m a.entry (not_asked a.class a.entry (sym c.is_asked.ensures ∙ c.if-not-is_asked.true)))
 
 returns-2 : tie.Need-returns
 unfolding row_of
@@ -21,7 +21,7 @@ returns-2 c =
     let b = c in
     let a = b.args in
     c.passes.ensures ∙ ap (λ p. fits a.m (bit a.class) (row_of_parts p).test) (rw c.row_in.ensures at c.unpack.ensures)
-    ∙ sym (entry_meets a.class a.m a.entry (asked a.class a.entry (sym b.is_asked.ensures ∙ not-false b.is_asked.result b.if-not-is_asked.false)))
+    ∙ sym (entry_meets a.class a.m a.entry (asked a.class a.entry (sym b.is_asked.ensures ∙ b.if-not-is_asked.false)))
 
 pub meets_spec : {M : Type 1} → statement M
 meets_spec =

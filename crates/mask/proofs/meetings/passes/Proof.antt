@@ -5,39 +5,39 @@ use Rattle.mask.proofs.meetings.passes.Statement.{statement}
 use Rattle.mask.proofs.meetings.passes.Tie as tie
 
 returns : tie.Need-returns-in-0
-returns c = rw (c.in-0.keys1, c.bit-same_x.ensures)
+returns c = rw (c.in-0.is, c.bit-same_x.ensures)
 
 returns-2 : tie.Need-returns-in-1
-returns-2 c = rw (c.in-1.keys2, c.bit-same_x.ensures)
+returns-2 c = rw (c.in-1.is, c.bit-same_x.ensures)
 
 returns-3 : tie.Need-returns-in-2
-returns-3 c = rw (c.in-2.keys3, c.bit-in_x.ensures)
+returns-3 c = rw (c.in-2.is, c.bit-in_x.ensures)
 
 returns-4 : tie.Need-returns-in-3
-returns-4 c = rw (c.in-3.keys4, c.bit-in_x.ensures)
+returns-4 c = rw (c.in-3.is, c.bit-in_x.ensures)
 
 returns-5 : tie.Need-returns-in-4
-returns-5 c = rw (c.in-4.keys5, c.bit-in_x.ensures, c.bit-in_y.ensures)
+returns-5 c = rw (c.in-4.is, c.bit-in_x.ensures, c.bit-in_y.ensures)
 
 returns-6 : tie.Need-returns-in-5
-returns-6 c = rw (c.in-5.keys6, c.bit-in_x.ensures, c.bit-in_y.ensures)
+returns-6 c = rw (c.in-5.is, c.bit-in_x.ensures, c.bit-in_y.ensures)
 
 returns-7 : tie.Need-returns-in-6
-returns-7 c = rw (c.in-6.keys7, c.bit-in_x.ensures, c.bit-same_y.ensures)
+returns-7 c = rw (c.in-6.is, c.bit-in_x.ensures, c.bit-same_y.ensures)
 
 returns-8 : tie.Need-returns-in-7
-returns-8 c = rw (c.in-7.keys8, c.bit-in_x.ensures, c.bit-in_y.ensures, c.bit-in_z.ensures)
+returns-8 c = rw (c.in-7.is, c.bit-in_x.ensures, c.bit-in_y.ensures, c.bit-in_z.ensures)
 
 returns-9 : tie.Need-returns-in-8
-returns-9 c = rw (c.in-8.keys9, c.bit-in_x.ensures, c.bit-in_y.ensures, c.bit-in_z.ensures)
+returns-9 c = rw (c.in-8.is, c.bit-in_x.ensures, c.bit-in_y.ensures, c.bit-in_z.ensures)
 
 returns-10 : tie.Need-returns-in-9
-returns-10 c = rw (c.in-9.keys10, c.bit-in_x.ensures, c.bit-in_y.ensures, c.bit-in_z.ensures)
+returns-10 c = rw (c.in-9.is, c.bit-in_x.ensures, c.bit-in_y.ensures, c.bit-in_z.ensures)
 
 returns-11 : tie.Need-returns-in_default
 returns-11 c =
     let p = c.args.p in
-    rw (past_kinds p.kind p.first p.second p.third c.in_default.rest, c.bit-same_x.ensures)
+    rw (past_kinds p.kind p.first p.second p.third c.in_default.in_default-own.rest, c.bit-same_x.ensures)
 
 pub passes_spec : {M : Type 1} → statement M
 passes_spec =

@@ -24,7 +24,7 @@ returns c =
     let k = c in
     let a = k.args in
     let l = k.loop-q in
-    let lacks = sym c.bit-then-bit.ensures ∙ not-true c.bit-then-bit.result c.if-not-bit.true in
+    let lacks = sym c.bit-then-bit.ensures ∙ c.if-not-bit.true in
     subst (λ v. TrialIs a.sets a.m a.decided v (set l.why l.q l.c) (Next l.q)) l.invariant.1
     (trial_next a.m l.why a.decided a.sets k.requires.1 l.q l.c k.requires.0 c.loop-q-test.true lacks l.invariant.2)
 

@@ -14,11 +14,11 @@ use Rattle.model_file.proofs.reads.read_model.Tie as tie
 returns : tie.Need-returns-then-not-has_its_length
 returns c =
     let a = c.args in
-    c.refuse.ensures ∙ sym (read_bad a.elements a.bytes.now (sym c.has_its_length.ensures ∙ not-true _ c.if-not-has_its_length.true))
+    c.refuse.ensures ∙ sym (read_bad a.elements a.bytes.now (sym c.has_its_length.ensures ∙ c.if-not-has_its_length.true))
 
 -- the bytes have their length
 has : (c : tie.Else-not-has_its_length) → let a = c.args in has_its_length a.elements a.bytes.now ≡ true
-has c = sym c.has_its_length.ensures ∙ not-false _ c.if-not-has_its_length.false
+has c = sym c.has_its_length.ensures ∙ c.if-not-has_its_length.false
 
 returns-2 : tie.Need-returns
 returns-2 c =

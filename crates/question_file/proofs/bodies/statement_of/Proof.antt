@@ -6,63 +6,63 @@ use Rattle.question_file.proofs.bodies.statement_of.Tie as tie
 
 returns : tie.Need-returns-in-16
 unfolding statement_of
-returns c = rw c.in-16.keys1
+returns c = rw c.in-16.is
 
 returns-2 : tie.Need-returns-in-17
 unfolding statement_of
-returns-2 c = rw c.in-17.keys2
+returns-2 c = rw c.in-17.is
 
 returns-3 : tie.Need-returns-in-18
 unfolding statement_of
-returns-3 c = rw c.in-18.keys3
+returns-3 c = rw c.in-18.is
 
 returns-4 : tie.Need-returns-in-19
 unfolding statement_of
-returns-4 c = rw c.in-19.keys4
+returns-4 c = rw c.in-19.is
 
 returns-5 : tie.Need-returns-in-32
 unfolding statement_of
-returns-5 c = rw c.in-32.keys5
+returns-5 c = rw c.in-32.is
 
 returns-6 : tie.Need-returns-in-33
 unfolding statement_of
-returns-6 c = rw c.in-33.keys6
+returns-6 c = rw c.in-33.is
 
 returns-7 : tie.Need-returns-in-34
 unfolding statement_of
-returns-7 c = rw c.in-34.keys7
+returns-7 c = rw c.in-34.is
 
 returns-8 : tie.Need-returns-in-35
 unfolding statement_of
-returns-8 c = rw c.in-35.keys8
+returns-8 c = rw c.in-35.is
 
 returns-9 : tie.Need-returns-in-48
 unfolding statement_of
-returns-9 c = rw c.in-48.keys9
+returns-9 c = rw c.in-48.is
 
 returns-10 : tie.Need-returns-in-49
 unfolding statement_of
-returns-10 c = rw c.in-49.keys10
+returns-10 c = rw c.in-49.is
 
 returns-11 : tie.Need-returns-in-50
 unfolding statement_of
-returns-11 c = rw c.in-50.keys11
+returns-11 c = rw c.in-50.is
 
 returns-12 : tie.Need-returns-in_default
 unfolding statement_of
 returns-12 c =
     simp (
-      ne_eqb _ _ c.in_default.rest.1,
-      ne_eqb _ _ c.in_default.rest.0.1,
-      ne_eqb _ _ c.in_default.rest.0.0.1,
-      ne_eqb _ _ c.in_default.rest.0.0.0.1,
-      ne_eqb _ _ c.in_default.rest.0.0.0.0.1,
-      ne_eqb _ _ c.in_default.rest.0.0.0.0.0.1,
-      ne_eqb _ _ c.in_default.rest.0.0.0.0.0.0.1,
-      ne_eqb _ _ c.in_default.rest.0.0.0.0.0.0.0.1,
-      ne_eqb _ _ c.in_default.rest.0.0.0.0.0.0.0.0.1,
-      ne_eqb _ _ c.in_default.rest.0.0.0.0.0.0.0.0.0.1,
-      ne_eqb _ _ c.in_default.rest.0.0.0.0.0.0.0.0.0.0.1,
+      ne_eqb _ _ c.in_default.in_default-own.rest.1,
+      ne_eqb _ _ c.in_default.in_default-own.rest.0.1,
+      ne_eqb _ _ c.in_default.in_default-own.rest.0.0.1,
+      ne_eqb _ _ c.in_default.in_default-own.rest.0.0.0.1,
+      ne_eqb _ _ c.in_default.in_default-own.rest.0.0.0.0.1,
+      ne_eqb _ _ c.in_default.in_default-own.rest.0.0.0.0.0.1,
+      ne_eqb _ _ c.in_default.in_default-own.rest.0.0.0.0.0.0.1,
+      ne_eqb _ _ c.in_default.in_default-own.rest.0.0.0.0.0.0.0.1,
+      ne_eqb _ _ c.in_default.in_default-own.rest.0.0.0.0.0.0.0.0.1,
+      ne_eqb _ _ c.in_default.in_default-own.rest.0.0.0.0.0.0.0.0.0.1,
+      ne_eqb _ _ c.in_default.in_default-own.rest.0.0.0.0.0.0.0.0.0.0.1,
     )
 
 pub statement_of_spec : {M : Type 1} → statement M

@@ -21,7 +21,7 @@ decreases-loop buf₀ q count at₀ i₀ buf at i = count - i
 
 -- at a turn the next statement's field is still to come, and fits
 turned : (c : tie.In-loop-i invariant-loop decreases-loop) →
-    let l = c in let a = l.args in let q = a.t1 in
+    let l = c in let a = l.args in let q = a.q in
     Run (statements_bytes (statements q)) a.buf.now (statement_bytes (get_or q.table l.loop-i.i idle).statement ++ bytes_from q (l.loop-i.i + 1)) l.loop-i.buf l.loop-i.at
 turned c =
     let l = c in
@@ -31,13 +31,13 @@ turned c =
 
 fits : (c : tie.In-loop-i invariant-loop decreases-loop) →
     let l = c in let a = l.args in
-    (length l.loop-i.buf ≡ length a.buf.now) × (l.loop-i.at + length (statement_bytes (get_or a.t1.table l.loop-i.i idle).statement) ≤ length l.loop-i.buf)
+    (length l.loop-i.buf ≡ length a.buf.now) × (l.loop-i.at + length (statement_bytes (get_or a.q.table l.loop-i.i idle).statement) ≤ length l.loop-i.buf)
 fits c =
     let l = c in
     let a = l.args in
-    let s = (get_or a.t1.table l.loop-i.i idle).statement in
+    let s = (get_or a.q.table l.loop-i.i idle).statement in
     let room = run_room (turned c) l.requires.1 in
-    (room.0, omega (arith, room.0, room.1, length-append (statement_bytes s) (bytes_from a.t1 (l.loop-i.i + 1)), l.requires.1))
+    (room.0, omega (arith, room.0, room.1, length-append (statement_bytes s) (bytes_from a.q (l.loop-i.i + 1)), l.requires.1))
 
 loop-again : tie.Need-loop-i-preserved invariant-loop decreases-loop
 loop-again c =

@@ -24,12 +24,12 @@ loop-holds c =
 
 -- the rows of the statement at a turn are some of those left
 turned : (c : tie.After-row_count-total invariant-loop decreases-loop) → let l = c in let a = l.args in
-    count_from a.t1 a.terms l.loop-i.i ≡ c.row_count-total.result + count_from a.t1 a.terms (l.loop-i.i + 1)
+    count_from a.q a.terms l.loop-i.i ≡ c.row_count-total.result + count_from a.q a.terms (l.loop-i.i + 1)
 turned c =
     let l = c in
     let a = l.args in
-    count_turn a.t1 a.terms l.loop-i.i idle (omega (arith, c.loop-i-test.true, l.statement_count-count.ensures.0))
-    ∙ ap (λ n. n + count_from a.t1 a.terms (l.loop-i.i + 1)) (sym c.row_count-total.ensures)
+    count_turn a.q a.terms l.loop-i.i idle (omega (arith, c.loop-i-test.true, l.statement_count-count.ensures.0))
+    ∙ ap (λ n. n + count_from a.q a.terms (l.loop-i.i + 1)) (sym c.row_count-total.ensures)
 
 add_total : tie.Need-overflow_add-total invariant-loop decreases-loop
 add_total c =
@@ -47,7 +47,7 @@ returns : tie.Need-returns invariant-loop decreases-loop
 returns c =
     let l = c in
     let a = l.args in
-    omega (arith, l.loop-i.invariant.1, count_end a.t1 a.terms l.loop-i.i (omega (arith, c.loop-i-test.false, l.statement_count-count.ensures.0)))
+    omega (arith, l.loop-i.invariant.1, count_end a.q a.terms l.loop-i.i (omega (arith, c.loop-i-test.false, l.statement_count-count.ensures.0)))
 
 pub count_rows_spec : {M : Type 1} → statement M
 count_rows_spec =

@@ -24,30 +24,30 @@ decreases-loop terms rows₀ q stated elements witness₀ at₀ i₀ rows w at i
 loop-holds : tie.Need-loop-i-init invariant-loop decreases-loop
 loop-holds c =
     let a = c.args in
-    let all_left = packed_from a.t1 ∙ ap (λ t. rows_from a.t1 t 0 a.t1.elements) (sym c.requires.0) in
-    (search rules, search rules, subst (λ rest. Run (packed_rows a.t1) a.rows.now rest a.rows.now 0) all_left (run_start (packed_rows a.t1) a.rows.now))
+    let all_left = packed_from a.q ∙ ap (λ t. rows_from a.q t 0 a.q.elements) (sym c.requires.0) in
+    (search rules, search rules, subst (λ rest. Run (packed_rows a.q) a.rows.now rest a.rows.now 0) all_left (run_start (packed_rows a.q) a.rows.now))
 
 -- at a turn the rows of the next statement come first of those left
 turned : (c : tie.In-loop-i invariant-loop decreases-loop) →
-    let l = c in let a = l.args in let s = (get_or a.t1.table l.loop-i.i idle).statement in
-    Run (packed_rows a.t1) a.rows.now (statement_rows a.terms l.loop-i.witness s ++ rows_from a.t1 a.terms (l.loop-i.i + 1) (l.loop-i.witness + witness s)) l.loop-i.rows l.loop-i.at
+    let l = c in let a = l.args in let s = (get_or a.q.table l.loop-i.i idle).statement in
+    Run (packed_rows a.q) a.rows.now (statement_rows a.terms l.loop-i.witness s ++ rows_from a.q a.terms (l.loop-i.i + 1) (l.loop-i.witness + witness s)) l.loop-i.rows l.loop-i.at
 turned c =
     let l = c in
     let a = l.args in
-    subst (λ rest. Run (packed_rows a.t1) a.rows.now rest l.loop-i.rows l.loop-i.at)
-    (from_turn a.t1 a.terms l.loop-i.i l.loop-i.witness idle (omega (arith, c.loop-i-test.true, l.statement_count-stated.ensures.0)))
+    subst (λ rest. Run (packed_rows a.q) a.rows.now rest l.loop-i.rows l.loop-i.at)
+    (from_turn a.q a.terms l.loop-i.i l.loop-i.witness idle (omega (arith, c.loop-i-test.true, l.statement_count-stated.ensures.0)))
     l.loop-i.invariant.2
 
 -- so they fit behind those written
 room : (c : tie.In-loop-i invariant-loop decreases-loop) →
     let l = c in let a = l.args in
-    (length l.loop-i.rows ≡ length a.rows.now) × (l.loop-i.at + length (statement_rows a.terms l.loop-i.witness (get_or a.t1.table l.loop-i.i idle).statement) ≤ length a.rows.now)
+    (length l.loop-i.rows ≡ length a.rows.now) × (l.loop-i.at + length (statement_rows a.terms l.loop-i.witness (get_or a.q.table l.loop-i.i idle).statement) ≤ length a.rows.now)
 room c =
     let l = c in
     let a = l.args in
-    let s = (get_or a.t1.table l.loop-i.i idle).statement in
+    let s = (get_or a.q.table l.loop-i.i idle).statement in
     let fits = run_room (turned c) l.requires.2 in
-    (fits.0, omega (arith, fits.1, length-append (statement_rows a.terms l.loop-i.witness s) (rows_from a.t1 a.terms (l.loop-i.i + 1) (l.loop-i.witness + witness s)), l.requires.2))
+    (fits.0, omega (arith, fits.1, length-append (statement_rows a.terms l.loop-i.witness s) (rows_from a.q a.terms (l.loop-i.i + 1) (l.loop-i.witness + witness s)), l.requires.2))
 
 -- the next witness has a number of one byte
 small : (c : tie.In-loop-i invariant-loop decreases-loop) → c.loop-i.witness < 256
@@ -74,8 +74,8 @@ loop-again c =
     let a = l.args in
     let put = c.put_statement-at in
     let own = c.witness_of in
-    let s = (get_or a.t1.table l.loop-i.i idle).statement in
-    let rest : ℕ → List ℕ = λ v. rows_from a.t1 a.terms (l.loop-i.i + 1) (l.loop-i.witness + v) in (
+    let s = (get_or a.q.table l.loop-i.i idle).statement in
+    let rest : ℕ → List ℕ = λ v. rows_from a.q a.terms (l.loop-i.i + 1) (l.loop-i.witness + v) in (
       omega arith,
       omega (arith, l.loop-i.invariant.1, few c.before.before.before.before),
       run_next (statement_rows a.terms l.loop-i.witness s) (rest (witness s)) (rest own.result) put.new.1.1.1.0 put.result
@@ -86,7 +86,7 @@ returns : tie.Need-returns invariant-loop decreases-loop
 returns c =
     let l = c in
     let a = l.args in
-    (run_end (subst (λ rest. Run (packed_rows a.t1) a.rows.now rest l.loop-i.rows l.loop-i.at) (from_end a.t1 a.terms l.loop-i.i l.loop-i.witness (omega (arith, c.loop-i-test.false, l.statement_count-stated.ensures.0))) l.loop-i.invariant.2)).1
+    (run_end (subst (λ rest. Run (packed_rows a.q) a.rows.now rest l.loop-i.rows l.loop-i.at) (from_end a.q a.terms l.loop-i.i l.loop-i.witness (omega (arith, c.loop-i-test.false, l.statement_count-stated.ensures.0))) l.loop-i.invariant.2)).1
 
 pub put_rows_spec : {M : Type 1} → statement M
 put_rows_spec =

@@ -10,50 +10,50 @@ use Rattle.row.proofs.checks.places_good.Tie as tie
 
 returns : tie.Need-returns-in-0
 unfolding places_good
-returns c = rw c.in-0.keys1
+returns c = rw c.in-0.is
 
 returns-2 : tie.Need-returns-in-1
 unfolding places_good
-returns-2 c = rw c.in-1.keys2
+returns-2 c = rw c.in-1.is
 
 returns-3 : tie.Need-returns-in-2
 unfolding places_good
-returns-3 c = rw c.in-2.keys3
+returns-3 c = rw c.in-2.is
 
 returns-4 : tie.Need-returns-in-3
 unfolding places_good
-returns-4 c = rw c.in-3.keys4
+returns-4 c = rw c.in-3.is
 
 returns-5 : tie.Need-returns-in-4
 unfolding places_good
-returns-5 c = rw c.in-4.keys5
+returns-5 c = rw c.in-4.is
 
 returns-6 : tie.Need-returns-in-5
 unfolding places_good
-returns-6 c = rw c.in-5.keys6
+returns-6 c = rw c.in-5.is
 
 returns-7 : tie.Need-returns-in-6
 unfolding places_good
-returns-7 c = rw c.in-6.keys7
+returns-7 c = rw c.in-6.is
 
 returns-8 : tie.Need-returns-in-7
 unfolding places_good
-returns-8 c = rw c.in-7.keys8
+returns-8 c = rw c.in-7.is
 
 returns-9 : tie.Need-returns-in-8
 unfolding places_good
-returns-9 c = rw c.in-8.keys9
+returns-9 c = rw c.in-8.is
 
 returns-10 : tie.Need-returns-in-9
 unfolding places_good
-returns-10 c = rw c.in-9.keys10
+returns-10 c = rw c.in-9.is
 
 returns-11 : tie.Need-returns-in_default
 unfolding places_good
 returns-11 c =
     let a = c.args in
     let p = a.p in
-    sym (get_or-eq_default (good_by_kind a.terms a.sets p.first p.second p.third) false {n = p.kind} (none_of 10 p.kind c.in_default.rest))
+    sym (get_or-eq_default (good_by_kind a.terms a.sets p.first p.second p.third) false {n = p.kind} (none_of 10 p.kind c.in_default.in_default-own.rest))
 
 pub places_good_spec : {M : Type 1} → statement M
 places_good_spec =

@@ -21,47 +21,47 @@ terms c d h = rw c.terms_in-terms.ensures h
 
 returns : tie.Need-returns-in-0
 unfolding row_of
-returns c d h = rw (← (parts c.before.before), c.in-0.keys1) (one_known (bit c.asked_besides.result) d c.unpack-p.result.first (c.asked_besides.ensures d (terms c.before.before d h)))
+returns c d h = rw (← (parts c.before.before), c.in-0.is) (one_known (bit c.asked_besides.result) d c.unpack-p.result.first (c.asked_besides.ensures d (terms c.before.before d h)))
 
 returns-2 : tie.Need-returns-in-1
 unfolding row_of
-returns-2 c d h = rw (← (parts c.before), c.in-1.keys2) tt
+returns-2 c d h = rw (← (parts c.before), c.in-1.is) tt
 
 returns-3 : tie.Need-returns-in-2
 unfolding row_of
-returns-3 c d h = rw (← (parts c.before), c.in-2.keys3) tt
+returns-3 c d h = rw (← (parts c.before), c.in-2.is) tt
 
 returns-4 : tie.Need-returns-in-3
 unfolding row_of
-returns-4 c d h = rw (← (parts c.before), c.in-3.keys4) tt
+returns-4 c d h = rw (← (parts c.before), c.in-3.is) tt
 
 returns-5 : tie.Need-returns-in-4
 unfolding row_of
-returns-5 c d h = rw (← (parts c.before), c.in-4.keys5) tt
+returns-5 c d h = rw (← (parts c.before), c.in-4.is) tt
 
 returns-6 : tie.Need-returns-in-5
 unfolding row_of
-returns-6 c d h = rw (← (parts c.before), c.in-5.keys6) tt
+returns-6 c d h = rw (← (parts c.before), c.in-5.is) tt
 
 returns-7 : tie.Need-returns-in-6
 unfolding row_of
-returns-7 c d h = rw (← (parts c.before.before), c.in-6.keys7) (one_known (bit c.asked_besides-in-6.result) d c.unpack-p.result.second (c.asked_besides-in-6.ensures d (terms c.before.before d h)))
+returns-7 c d h = rw (← (parts c.before.before), c.in-6.is) (one_known (bit c.asked_besides-in-6.result) d c.unpack-p.result.second (c.asked_besides-in-6.ensures d (terms c.before.before d h)))
 
 returns-8 : tie.Need-returns-in-7
 unfolding row_of
-returns-8 c d h = rw (← (parts c.before), c.in-7.keys8) tt
+returns-8 c d h = rw (← (parts c.before), c.in-7.is) tt
 
 returns-9 : tie.Need-returns-in-8
 unfolding row_of
-returns-9 c d h = rw (← (parts c.before), c.in-8.keys9) tt
+returns-9 c d h = rw (← (parts c.before), c.in-8.is) tt
 
 returns-10 : tie.Need-returns-in-9
 unfolding row_of
-returns-10 c d h = rw (← (parts c.before), c.in-9.keys10) tt
+returns-10 c d h = rw (← (parts c.before), c.in-9.is) tt
 
 returns-11 : tie.Need-returns-in_default
 unfolding row_of
-returns-11 c d h = rw (← (parts c.before.before), past_kinds _ _ _ _ c.in_default.rest) (one_known (bit c.asked_besides-in_default.result) d c.unpack-p.result.first (c.asked_besides-in_default.ensures d (terms c.before.before d h)))
+returns-11 c d h = rw (← (parts c.before.before), past_kinds _ _ _ _ c.in_default.in_default-own.rest) (one_known (bit c.asked_besides-in_default.result) d c.unpack-p.result.first (c.asked_besides-in_default.ensures d (terms c.before.before d h)))
 
 pub term_asked_spec : {M : Type 1} → statement M
 term_asked_spec =

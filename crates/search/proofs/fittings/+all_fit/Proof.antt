@@ -121,7 +121,7 @@ module _ (t : ℕ) where
       let asked = call.has_term in
       let e = call in
       let a = e.args in (
-        λ r. fits_past a.entries.now a.fixed a.ahead.term (all_terms a.ahead) (sym asked.ensures ∙ not-true asked.result call.if-not-has_term.true) a.groups
+        λ r. fits_past a.entries.now a.fixed a.ahead.term (all_terms a.ahead) (sym asked.ensures ∙ call.if-not-has_term.true) a.groups
             (subst (NothingFits a.entries.now a.fixed (a.ahead.term + 1) a.groups) (sym (all e.before.before.before.before.before.before)) (call.all_fit.ensures.0 r)),
         call.all_fit.ensures.1,
       )
@@ -214,7 +214,7 @@ module _ (t : ℕ) where
         λ r. tried_alone fits (2 ^ a.fixed.sets) (rows_of_entries a.entries.now) (before a.fixed.asked a.ahead.term) a.groups.terms a.groups.count (all_terms a.ahead) a.ahead.term (before a.fixed.asked (a.ahead.term + 1)) (before_next a.fixed.asked a.ahead.term) l.loop-k.k after.loop-k-test.false (omega (arith, some_left (first l.before.before.before.before.before.before)))
             l.loop-k.invariant.1
             (subst (λ n. NoPart a.entries.now a.fixed (a.ahead.term + 1) n (all_terms a.ahead)) (own_is l.before.before.before.before.before.before)
-            (subst (NoPart a.entries.now a.fixed (a.ahead.term + 1) _) (sym (all (first l.before.before.before.before.before.before))) (asked.ensures.0 (not-true asked.result c.if-not-part_fits.true)))),
+            (subst (NoPart a.entries.now a.fixed (a.ahead.term + 1) _) (sym (all (first l.before.before.before.before.before.before))) (asked.ensures.0 (c.if-not-part_fits.true)))),
         asked.ensures.1,
       )
 

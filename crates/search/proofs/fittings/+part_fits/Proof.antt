@@ -98,7 +98,7 @@ module _ (t : ℕ) where
       let call = c in
       let e = call in
       let a = e.args in (
-        λ r. part_past a.entries.now a.fixed a.ahead.term (all_terms a.ahead) (sym asked.ensures ∙ not-true asked.result c.if-not-has_term.true) a.group
+        λ r. part_past a.entries.now a.fixed a.ahead.term (all_terms a.ahead) (sym asked.ensures ∙ c.if-not-has_term.true) a.group
             (next_tells e.before.before.before.before.before.before.before a.group (call.part_fits.ensures.0 c.if-part_fits.false)),
         call.part_fits.ensures.1,
       )

@@ -83,7 +83,7 @@ module _ (t : ℕ) where
       let told = c.all_fit in
       let s = c in
       let a = s.args in
-      let nothing = told.ensures.0 (not-true told.result c.if-not-all_fit.true) in (
+      let nothing = told.ensures.0 (c.if-not-all_fit.true) in (
         answer_none a.entries.now a.fixed.sets a.arrangement a.unplaced.term a.unplaced.left a.groups.count c.without_model.result c.without_model.ensures
             (unfit_cut s.requires.1.1.0 s.requires.1.1.1.0 a.entries.now a.fixed a.unplaced.left nothing),
         told.ensures.1,

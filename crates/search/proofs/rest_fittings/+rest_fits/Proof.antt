@@ -178,7 +178,7 @@ module _ (t : ℕ) where
       let known = before a.fixed.asked (all_terms a.ahead) in
       let rows = rows_of_entries a.entries.now in
       let asked = l.needs_a_group in
-      let alone = ap (mask_of_group a.entries.now a.fixed.sets) (sym (own_is l.before)) ∙ asked.ensures.0 (not-false asked.result l.if-not-needs_a_group.false) in (
+      let alone = ap (mask_of_group a.entries.now a.fixed.sets) (sym (own_is l.before)) ∙ asked.ensures.0 (l.if-not-needs_a_group.false) in (
         λ r. tried_alone fits (2 ^ a.fixed.sets) rows known a.groups.terms a.groups.count (all_terms a.ahead) a.ahead.term known (λ d h. inl h) l.loop-k.k c.loop-k-test.false (omega (arith, some_left (first l.before))) l.loop-k.invariant.1
             (none_part set_tests (2 ^ a.fixed.sets) rows known (2 ^ a.ahead.term) (all_terms a.ahead) s.pre.1.0.asked_are alone),
         l.loop-k.invariant.2,

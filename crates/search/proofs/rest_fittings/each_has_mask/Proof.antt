@@ -27,7 +27,7 @@ returns c =
     let l = turn in
     let s = l in
     let asked = c.has_mask in
-    ((λ e. (l.loop-k.k, turn.loop-k-test.true, not_there (mask_of_group s.args.entries.now s.args.sets _) (sym asked.ensures.0 ∙ not-true asked.result c.if-not-has_mask.true))), asked.ensures.1)
+    ((λ e. (l.loop-k.k, turn.loop-k-test.true, not_there (mask_of_group s.args.entries.now s.args.sets _) (sym asked.ensures.0 ∙ c.if-not-has_mask.true))), asked.ensures.1)
 
 pub each_has_mask_spec : {M : Type 1} → statement M
 each_has_mask_spec =

@@ -17,7 +17,7 @@ returns c =
     let s = c in
     let a = s.args in
     let asked = c.each_has_mask in
-    let lacks = asked.ensures.0 (not-true asked.result c.if-not-each_has_mask.true) in
+    let lacks = asked.ensures.0 (c.if-not-each_has_mask.true) in
     ((λ e l at long here. part_cut set_tests (here.part lacks.0 lacks.1) (2 ^ a.fixed.sets) (rows_of_entries a.entries.now) s.requires.0.asked_are lacks.2), asked.ensures.1)
 
 rest-fits-requires : tie.Need-rest_fits-requires

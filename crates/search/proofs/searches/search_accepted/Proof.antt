@@ -26,8 +26,8 @@ returns-2 c =
     let s = asked in
     let a = s.args in
     answer_none a.terms a.sets a.rows.now (all_declared a.terms a.sets a.rows.now (kept s.before.before.before.before.before.before.before.before.before.before).all_good) asked.by_weight-to.result asked.back_from-back.result
-    (asked.is_renaming.ensures (not-false asked.is_renaming.result c.if-not-is_renaming.false)) found.result found.ensures.0
-    (sym c.is_possible.ensures ∙ not-true c.is_possible.result c.if-not-is_possible.true)
+    (asked.is_renaming.ensures (c.if-not-is_renaming.false)) found.result found.ensures.0
+    (sym c.is_possible.ensures ∙ c.if-not-is_possible.true)
 
 model-again-requires : tie.Need-model_again-requires
 model-again-requires c κs =
@@ -40,8 +40,8 @@ model-again-requires c κs =
       (
         omega (arith, (kept s.before.before.before.before.before.before.before.before.before.before.before.before).few_rows, found.ensures.1),
         placing_counted (found_placing a.terms a.sets a.rows.now (all_declared a.terms a.sets a.rows.now (kept s.before.before.before.before.before.before.before.before.before.before.before.before).all_good) asked.by_weight-to.result asked.back_from-back.result
-            (asked.is_renaming.ensures (not-false asked.is_renaming.result possible.if-not-is_renaming.false)) found.result found.ensures.0 (kept s.before.before.before.before.before.before.before.before.before.before.before.before).few_terms
-            (sym possible.is_possible.ensures ∙ not-false possible.is_possible.result c.if-not-is_possible.false)),
+            (asked.is_renaming.ensures (possible.if-not-is_renaming.false)) found.result found.ensures.0 (kept s.before.before.before.before.before.before.before.before.before.before.before.before).few_terms
+            (sym possible.is_possible.ensures ∙ c.if-not-is_possible.false)),
       ),
     )
 
@@ -53,8 +53,8 @@ returns-3 c =
     let s = asked in
     let a = s.args in
     answer_some a.terms a.sets a.rows.now (all_declared a.terms a.sets a.rows.now (kept s.before.before.before.before.before.before.before.before.before.before.before.before.before.before).all_good) asked.by_weight-to.result asked.back_from-back.result
-    (asked.is_renaming.ensures (not-false asked.is_renaming.result possible.if-not-is_renaming.false)) found.result found.ensures.0 (kept s.before.before.before.before.before.before.before.before.before.before.before.before.before.before).few_terms
-    (sym possible.is_possible.ensures ∙ not-false possible.is_possible.result c.if-not-is_possible.false) c.model_again.result c.model_again.ensures
+    (asked.is_renaming.ensures (possible.if-not-is_renaming.false)) found.result found.ensures.0 (kept s.before.before.before.before.before.before.before.before.before.before.before.before.before.before).few_terms
+    (sym possible.is_possible.ensures ∙ c.if-not-is_possible.false) c.model_again.result c.model_again.ensures
 
 pub search_accepted_spec : {M : Type 1} → statement M
 search_accepted_spec =
@@ -67,7 +67,7 @@ search_accepted_spec =
     (λ c κs. let s = c in (s.requires, ((kept s.before.before.before.before.before.before).few_rows, λ x lt. omega (arith, plain_stays s.args.sets (kept s.before.before.before.before.before.before).few_sets x lt))))
     returns
     (λ c. search rules)
-    (λ c κs. let asked = c in let s = asked in (s.requires, ((kept s.before.before.before.before.before.before).few_rows, λ x lt. (asked.is_renaming.ensures (not-false asked.is_renaming.result c.if-not-is_renaming.false) x lt).0)))
+    (λ c κs. let asked = c in let s = asked in (s.requires, ((kept s.before.before.before.before.before.before).few_rows, λ x lt. (asked.is_renaming.ensures (c.if-not-is_renaming.false) x lt).0)))
     (λ c κs. search rules)
     returns-2
     (λ c. search rules)

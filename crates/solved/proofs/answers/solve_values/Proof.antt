@@ -18,7 +18,7 @@ returns c =
     let s = t in
     let a = s.args in
     let old = a.buf.now in
-    let is : t.model_said_lem.result ≡ said_as (model_of a.q a.said.values) = t.model_said_lem.ensures ∙ ap (λ n. said_as (model_said n a.q.sets (truth_of a.said.values))) t.terms-count.ensures in
+    let is : t.model_said-m.result ≡ said_as (model_of a.q a.said.values) = t.model_said-m.ensures ∙ ap (λ n. said_as (model_said n a.q.sets (truth_of a.said.values))) t.terms-count.ensures in
     let all = said_solved a.q s.requires (model_of a.q a.said.values) (model_arranged a.q a.said.values) old in
     (j.ensures.0 ∙ ap (λ m. said_judged a.q m (length old)) is ∙ all.0, j.ensures.1 ∙ ap (λ m. said_judged_over a.q m old) is ∙ all.1)
 

@@ -21,7 +21,7 @@ decreases-loop said terms d used numbers class₀ c₀ class c = c
 loop-holds : tie.Need-loop-c-init invariant-loop decreases-loop
 loop-holds c =
     let a = c.args in
-    (omega arith, sym (ap (class_by a.t4 a.used) (joined_none a.terms (truth_of a.said.values) a.d)))
+    (omega arith, sym (ap (class_by a.numbers a.used) (joined_none a.terms (truth_of a.said.values) a.d)))
 
 loop-again : tie.Need-loop-c-preserved-then-is_true invariant-loop decreases-loop
 loop-again c =
@@ -30,7 +30,7 @@ loop-again c =
     let truth : Truth = truth_of a.said.values in
     let taken = c.loop-c-test.true in
     let yes_it_is : truth (pair_variable a.terms 0 (l.c - 1) a.d) ≡ true = sym (c.is_true.ensures ∙ ap truth c.pair_variable.ensures) ∙ c.if-is_true.true in
-    (omega arith, sym (ap (class_by a.t4 a.used) (joined_hit a.terms truth a.d l.c taken l.invariant.0 yes_it_is)))
+    (omega arith, sym (ap (class_by a.numbers a.used) (joined_hit a.terms truth a.d l.c taken l.invariant.0 yes_it_is)))
 
 loop-again-2 : tie.Need-loop-c-preserved invariant-loop decreases-loop
 loop-again-2 c =
@@ -39,7 +39,7 @@ loop-again-2 c =
     let truth : Truth = truth_of a.said.values in
     let taken = c.loop-c-test.true in
     let no_it_is_not : truth (pair_variable a.terms 0 (l.c - 1) a.d) ≡ false = sym (c.is_true.ensures ∙ ap truth c.pair_variable.ensures) ∙ c.if-is_true.false in
-    (omega arith, l.invariant.1 ∙ sym (ap (class_by a.t4 a.used) (joined_miss a.terms truth a.d l.c taken l.invariant.0 no_it_is_not)))
+    (omega arith, l.invariant.1 ∙ sym (ap (class_by a.numbers a.used) (joined_miss a.terms truth a.d l.c taken l.invariant.0 no_it_is_not)))
 
 returns : tie.Need-returns invariant-loop decreases-loop
 returns c =
@@ -47,7 +47,7 @@ returns c =
     let a = c.args in
     let truth : Truth = truth_of a.said.values in
     let first : l.c ≡ 0 = omega (arith, c.loop-c-test.false) in
-    l.invariant.1 ∙ ap (λ i. class_by a.t4 a.used (joined_from a.terms truth a.d i)) first ∙ ap (class_by a.t4 a.used) (joined_all a.terms truth a.d)
+    l.invariant.1 ∙ ap (λ i. class_by a.numbers a.used (joined_from a.terms truth a.d i)) first ∙ ap (class_by a.numbers a.used) (joined_all a.terms truth a.d)
 
 pub class_said_spec : {M : Type 1} → statement M
 class_said_spec =

@@ -11,8 +11,8 @@ use Rattle.solved.proofs.models.is_true.Tie as tie
 returns : tie.Need-returns-then-v-ge-VALUES
 returns c =
     let a = c.args in
-    let long : length a.t1.values ≡ 260 = search table_long in
-    sym (true_past a.t1.values a.v (omega (arith, c.if-v-ge-VALUES.true)))
+    let long : length a.said.values ≡ 260 = search table_long in
+    sym (true_past a.said.values a.v (omega (arith, c.if-v-ge-VALUES.true)))
 
 pub is_true_spec : {M : Type 1} → statement M
 is_true_spec = tie.close (tie.spec returns (λ c. search rules) (λ c. search rules) (λ c. search rules))

@@ -22,7 +22,7 @@ returns : tie.Need-returns-then-class-used
 returns c =
     let s = c in
     let a = s.args in
-    place_started a.terms a.sets (truth_of a.said.values) a.d s.requires.1 a.m s.requires.2 c.class_said-class.ensures c.mask_said_lem.ensures c.if-class-used.true
+    place_started a.terms a.sets (truth_of a.said.values) a.d s.requires.1 a.m s.requires.2 c.class_said-class.ensures c.mask_said.ensures c.if-class-used.true
 
 returns-2 : tie.Need-returns-else-class-used
 returns-2 c =
