@@ -3,10 +3,11 @@ ghost use Rattle.std.specs.Prelude.{◌≡◌, length};
 
 use clash::ClashWritten;
 use judge::Judgement;
-use libc::STDOUT_FILENO;
 use outcome::{Check, Refusal, Verdict, Written};
 use search::SearchAnswer;
 use solved::Solved;
+
+const STDOUT_FILENO: i32 = 1;
 
 pub(crate) fn text(words: &[u8]) {
     io::write_all(STDOUT_FILENO, words);

@@ -1,9 +1,10 @@
 // What is printed: counts, and the first question on which the two solvers differ.
 use crate::comparing::Tally;
-use libc::STDOUT_FILENO;
 use outcome::Written;
 use question::Question;
 use question_file::write_question;
+
+const STDOUT_FILENO: i32 = 1;
 
 pub(crate) fn text(words: &[u8]) {
     io::write_all(STDOUT_FILENO, words);

@@ -3,10 +3,10 @@ use Rattle.std.proofs.Common.{◌-◌, ◌≤◌, max, length, arith}
 use Rattle.cases.proofs.line_end.Statement.{statement}
 use Rattle.cases.proofs.line_end.Tie as tie
 
-abbrev invariant-loop : tie.invariant-loop
+abbrev invariant-loop : tie.invariant-loop-end
 invariant-loop input at end₀ end = (at ≤ end) × (end ≤ max at (length input))
 
-abbrev decreases-loop : tie.decreases-loop
+abbrev decreases-loop : tie.decreases-loop-end
 decreases-loop input at end₀ end = length input - end
 
 pub line_end_spec : {M : Type 1} → statement M

@@ -3,10 +3,10 @@ use Rattle.std.proofs.Common.{◌-◌, length, rules}
 use Rattle.cases.proofs.run.Statement.{statement}
 use Rattle.cases.proofs.run.Tie as tie
 
-abbrev invariant-loop : tie.invariant-loop
+abbrev invariant-loop : tie.invariant-loop-at
 invariant-loop input at₀ at = Unit {0}
 
-abbrev decreases-loop : tie.decreases-loop
+abbrev decreases-loop : tie.decreases-loop-at
 decreases-loop input at₀ at = length input - at
 
 pub run_spec : {M : Type 1} → statement M

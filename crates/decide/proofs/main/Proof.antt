@@ -6,10 +6,10 @@ use Rattle.sayfudhoum.proofs.FileLaws.{response_within}
 use Rattle.decide.proofs.main.Statement.{statement}
 use Rattle.decide.proofs.main.Tie as tie
 
-part_write_all_end : tie.Need-slice-bounds-write-all-end
+part_write_all_end : tie.Need-slice_bounds-write_all-end
 part_write_all_end c =
-    let r = c.before.before.before.before.before.respond in
-    omega (arith, response_within _ _ _ _ (sym r.ensures.0 ∙ c.before.before.count.given.1) r.ensures.1)
+    let r = c.respond in
+    omega (arith, response_within _ _ _ _ (sym r.ensures.0 ∙ c.in-Count.is) r.ensures.1)
 
 pub main_spec : {M : Type 1} → statement M
 main_spec =

@@ -12,14 +12,14 @@ use Rattle.answer.proofs.writes.put_solution.Tie as tie
 -- field 42 fits behind field 41
 fits : (c : tie.After-slice_known-2-1) →
     let p = c.put_numbers-first in let a = c.args in
-    (length p.new.1.1.0 ≡ length a.buf.now) × (p.result + length (masks_bytes (take a.classes a.a.masks)) ≤ length p.new.1.1.0)
+    (length p.new.buf ≡ length a.buf.now) × (p.result + length (masks_bytes (take a.classes a.a.masks)) ≤ length p.new.buf)
 fits c =
     let p = c.put_numbers-first in
     let s = c in
     let a = s.args in
     let first = numbers_bytes (take a.terms a.a.arrangement) in
     let both = length-append first (masks_bytes (take a.classes a.a.masks)) in
-    let same : length p.new.1.1.0 ≡ length a.buf.now = ap length p.ensures.1 ∙ over_length first a.buf.now (omega (arith, s.requires.2, both)) in
+    let same : length p.new.buf ≡ length a.buf.now = ap length p.ensures.1 ∙ over_length first a.buf.now (omega (arith, s.requires.2, both)) in
     (same, omega (arith, s.requires.2, both, p.ensures.0))
 
 -- field 41 fits
@@ -35,7 +35,7 @@ returns c =
     let a = c.args in
     let first = numbers_bytes (take a.terms a.a.arrangement) in
     let second = masks_bytes (take a.classes a.a.masks) in
-    (omega (arith, p.ensures.0, m.ensures.0, length-append first second), behind first second a.buf.now p.new.1.1.0 m.new.1.1.0 p.result p.ensures.0 p.ensures.1 m.ensures.1)
+    (omega (arith, p.ensures.0, m.ensures.0, length-append first second), behind first second a.buf.now p.new.buf m.new.buf p.result p.ensures.0 p.ensures.1 m.ensures.1)
 
 pub put_solution_spec : {M : Type 1} → statement M
 put_solution_spec =

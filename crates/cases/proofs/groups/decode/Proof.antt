@@ -3,13 +3,13 @@ use Rattle.std.proofs.Common.{◌≡◌, ◌-◌, ◌≤◌, length, refl, arith
 use Rattle.cases.proofs.groups.decode.Statement.{statement}
 use Rattle.cases.proofs.groups.decode.Tie as tie
 
-abbrev invariant-loop : tie.invariant-loop
+abbrev invariant-loop : tie.invariant-loop-i
 invariant-loop line from at bytes₀ total₀ i₀ bytes total i = (at ≤ total) × (total ≤ length bytes) × (length bytes ≡ length bytes₀)
 
-abbrev decreases-loop : tie.decreases-loop
+abbrev decreases-loop : tie.decreases-loop-i
 decreases-loop line from at bytes₀ total₀ i₀ bytes total i = length line - i
 
-loop-again-2 : tie.Need-loop-preserved-2 invariant-loop decreases-loop
+loop-again-2 : tie.Need-loop-i-preserved invariant-loop decreases-loop
 loop-again-2 c = (omega arith, simp length-set (omega arith), simp length-set (omega arith))
 
 pub decode_spec : {M : Type 1} → statement M

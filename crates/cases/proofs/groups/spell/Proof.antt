@@ -3,10 +3,10 @@ use Rattle.std.proofs.Common.{◌≡◌, ◌-◌, ◌≤◌, length, refl, arith
 use Rattle.cases.proofs.groups.spell.Statement.{statement}
 use Rattle.cases.proofs.groups.spell.Tie as tie
 
-abbrev invariant-loop : tie.invariant-loop
+abbrev invariant-loop : tie.invariant-loop-i
 invariant-loop line from at bytes₀ total₀ i₀ bytes total i = (at ≤ total) × (total ≤ length bytes) × (length bytes ≡ length bytes₀)
 
-abbrev decreases-loop : tie.decreases-loop
+abbrev decreases-loop : tie.decreases-loop-i
 decreases-loop line from at bytes₀ total₀ i₀ bytes total i = length line - i
 
 pub spell_spec : {M : Type 1} → statement M

@@ -3,10 +3,10 @@ use Rattle.std.proofs.Common.{◌≡◌, ◌-◌, ◌≤◌, length, refl, arith
 use Rattle.cases.proofs.models.fill_rows.Statement.{statement}
 use Rattle.cases.proofs.models.fill_rows.Tie as tie
 
-abbrev invariant-loop : tie.invariant-loop
+abbrev invariant-loop : tie.invariant-loop-i
 invariant-loop bytes rows₀ i₀ rows i = (i ≤ length rows) × (length rows ≡ length rows₀)
 
-abbrev decreases-loop : tie.decreases-loop
+abbrev decreases-loop : tie.decreases-loop-i
 decreases-loop bytes rows₀ i₀ rows i = length rows - i
 
 pub fill_rows_spec : {M : Type 1} → statement M

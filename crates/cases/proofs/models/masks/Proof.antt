@@ -3,10 +3,10 @@ use Rattle.std.proofs.Common.{◌≡◌, ◌-◌, ◌≤◌, length, refl, arith
 use Rattle.cases.proofs.models.masks.Statement.{statement}
 use Rattle.cases.proofs.models.masks.Tie as tie
 
-abbrev invariant-loop : tie.invariant-loop
+abbrev invariant-loop : tie.invariant-loop-i
 invariant-loop memberships masks₀ i₀ masks i = (i ≤ 12) × (length masks ≡ 12)
 
-abbrev decreases-loop : tie.decreases-loop
+abbrev decreases-loop : tie.decreases-loop-i
 decreases-loop memberships masks₀ i₀ masks i = 12 - i
 
 pub masks_spec : {M : Type 1} → statement M

@@ -3,10 +3,10 @@ use Rattle.std.proofs.Common.{◌≡◌, ◌-◌, ◌≤◌, length, refl, arith
 use Rattle.cases.proofs.models.numbers.Statement.{statement}
 use Rattle.cases.proofs.models.numbers.Tie as tie
 
-abbrev invariant-loop : tie.invariant-loop
+abbrev invariant-loop : tie.invariant-loop-i
 invariant-loop bytes numbers₀ i₀ numbers i = (i ≤ 12) × (length numbers ≡ 12)
 
-abbrev decreases-loop : tie.decreases-loop
+abbrev decreases-loop : tie.decreases-loop-i
 decreases-loop bytes numbers₀ i₀ numbers i = 12 - i
 
 pub numbers_spec : {M : Type 1} → statement M

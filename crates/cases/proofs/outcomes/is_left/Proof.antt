@@ -3,10 +3,10 @@ use Rattle.std.proofs.Common.{◌-◌, length, rules}
 use Rattle.cases.proofs.outcomes.is_left.Statement.{statement}
 use Rattle.cases.proofs.outcomes.is_left.Tie as tie
 
-abbrev invariant-loop : tie.invariant-loop
+abbrev invariant-loop : tie.invariant-loop-i
 invariant-loop buf from i₀ i = Unit {0}
 
-abbrev decreases-loop : tie.decreases-loop
+abbrev decreases-loop : tie.decreases-loop-i
 decreases-loop buf from i₀ i = length buf - i
 
 pub is_left_spec : {M : Type 1} → statement M

@@ -3,10 +3,10 @@ use Rattle.std.proofs.Common.{◌-◌, length, rules}
 use Rattle.cases.proofs.outcomes.lines.Statement.{statement}
 use Rattle.cases.proofs.outcomes.lines.Tie as tie
 
-abbrev invariant-loop : tie.invariant-loop
+abbrev invariant-loop : tie.invariant-loop-i
 invariant-loop words i₀ i = Unit {0}
 
-abbrev decreases-loop : tie.decreases-loop
+abbrev decreases-loop : tie.decreases-loop-i
 decreases-loop words i₀ i = length words - i
 
 pub lines_spec : {M : Type 1} → statement M

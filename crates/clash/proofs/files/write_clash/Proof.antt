@@ -18,7 +18,7 @@ use Rattle.clash.proofs.files.write_clash.Tie as tie
 
 -- what is written of the answer
 answered : (s : tie.After-write_answer) → let w = s.write_answer in let q = s.args.q in
-    (w.result ≡ fitted (file_of (answer q)) 49) × (w.new.1.1.0 ≡ fitted_over (file_of (answer q)) (replicate 49 0))
+    (w.result ≡ fitted (file_of (answer q)) 49) × (w.new.buf ≡ fitted_over (file_of (answer q)) (replicate 49 0))
 answered s =
     let e = s in
     let p = answer_writes e.args.q e.requires.0 e.args.found e.requires.1 (replicate 49 0) in

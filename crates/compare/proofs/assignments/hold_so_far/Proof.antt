@@ -3,10 +3,10 @@ use Rattle.std.proofs.Common.{◌-◌, ◌≤◌, rules}
 use Rattle.compare.proofs.assignments.hold_so_far.Statement.{statement}
 use Rattle.compare.proofs.assignments.hold_so_far.Tie as tie
 
-abbrev invariant-loop : tie.invariant-loop
+abbrev invariant-loop : tie.invariant-loop-i
 invariant-loop v known q count i₀ i = i ≤ 64
 
-abbrev decreases-loop : tie.decreases-loop
+abbrev decreases-loop : tie.decreases-loop-i
 decreases-loop v known q count i₀ i = 64 - i
 
 pub hold_so_far_spec : {M : Type 1} → statement M

@@ -3,10 +3,10 @@ use Rattle.std.proofs.Common.{◌-◌, ◌≤◌, rules}
 use Rattle.compare.proofs.clashes.is_clash.Statement.{statement}
 use Rattle.compare.proofs.clashes.is_clash.Tie as tie
 
-abbrev invariant-loop : tie.invariant-loop
+abbrev invariant-loop : tie.invariant-loop-k
 invariant-loop part count k₀ k = k ≤ 64
 
-abbrev decreases-loop : tie.decreases-loop
+abbrev decreases-loop : tie.decreases-loop-k
 decreases-loop part count k₀ k = 64 - k
 
 pub is_clash_spec : {M : Type 1} → statement M

@@ -3,10 +3,10 @@ use Rattle.std.proofs.Common.{◌-◌, ◌≤◌, rules}
 use Rattle.compare.proofs.clashes.is_possible.Statement.{statement}
 use Rattle.compare.proofs.clashes.is_possible.Tie as tie
 
-abbrev invariant-loop : tie.invariant-loop
+abbrev invariant-loop : tie.invariant-loop-p
 invariant-loop q all p₀ p = p ≤ all
 
-abbrev decreases-loop : tie.decreases-loop
+abbrev decreases-loop : tie.decreases-loop-p
 decreases-loop q all p₀ p = all - p
 
 pub is_possible_spec : {M : Type 1} → statement M

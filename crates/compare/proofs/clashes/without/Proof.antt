@@ -3,10 +3,10 @@ use Rattle.std.proofs.Common.{◌-◌, rules}
 use Rattle.compare.proofs.clashes.without.Statement.{statement}
 use Rattle.compare.proofs.clashes.without.Tie as tie
 
-abbrev invariant-loop : tie.invariant-loop
+abbrev invariant-loop : tie.invariant-loop-i
 invariant-loop k q less₀ count i₀ less i = Unit {0}
 
-abbrev decreases-loop : tie.decreases-loop
+abbrev decreases-loop : tie.decreases-loop-i
 decreases-loop k q less₀ count i₀ less i = 63 - i
 
 pub without_spec : {M : Type 1} → statement M

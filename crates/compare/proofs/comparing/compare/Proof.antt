@@ -3,10 +3,10 @@ use Rattle.std.proofs.Common.{◌-◌, ◌≤◌, rules}
 use Rattle.compare.proofs.comparing.compare.Statement.{statement}
 use Rattle.compare.proofs.comparing.compare.Tie as tie
 
-abbrev invariant-loop : tie.invariant-loop
+abbrev invariant-loop : tie.invariant-loop-p
 invariant-loop q all now₀ possible₀ p₀ now possible p = p ≤ all
 
-abbrev decreases-loop : tie.decreases-loop
+abbrev decreases-loop : tie.decreases-loop-p
 decreases-loop q all now₀ possible₀ p₀ now possible p = all - p
 
 pub compare_spec : {M : Type 1} → statement M

@@ -3,10 +3,10 @@ use Rattle.std.proofs.Common.{◌≡◌, ◌-◌, ◌≤◌, length, refl, arith
 use Rattle.compare.proofs.judged.put_elements.Statement.{statement}
 use Rattle.compare.proofs.judged.put_elements.Tie as tie
 
-abbrev invariant-loop : tie.invariant-loop
+abbrev invariant-loop : tie.invariant-loop-i
 invariant-loop names at buf₀ elements next₀ i₀ buf next i = (i ≤ 12) × (length buf ≡ length buf₀)
 
-abbrev decreases-loop : tie.decreases-loop
+abbrev decreases-loop : tie.decreases-loop-i
 decreases-loop names at buf₀ elements next₀ i₀ buf next i = 12 - i
 
 pub put_elements_spec : {M : Type 1} → statement M

@@ -3,10 +3,10 @@ use Rattle.std.proofs.Common.{◌≡◌, ◌-◌, ◌≤◌, length, refl, arith
 use Rattle.compare.proofs.judged.put_masks.Statement.{statement}
 use Rattle.compare.proofs.judged.put_masks.Tie as tie
 
-abbrev invariant-loop : tie.invariant-loop
+abbrev invariant-loop : tie.invariant-loop-d
 invariant-loop size at buf₀ masks next₀ d₀ buf next d = (d ≤ 12) × (length buf ≡ length buf₀)
 
-abbrev decreases-loop : tie.decreases-loop
+abbrev decreases-loop : tie.decreases-loop-d
 decreases-loop size at buf₀ masks next₀ d₀ buf next d = 12 - d
 
 pub put_masks_spec : {M : Type 1} → statement M

@@ -3,10 +3,10 @@ use Rattle.std.proofs.Common.{◌-◌, ◌≤◌, rules}
 use Rattle.compare.proofs.models.classes.Statement.{statement}
 use Rattle.compare.proofs.models.classes.Tie as tie
 
-abbrev invariant-loop : tie.invariant-loop
+abbrev invariant-loop : tie.invariant-loop-i
 invariant-loop terms arrangement classes₀ i₀ classes i = i ≤ 12
 
-abbrev decreases-loop : tie.decreases-loop
+abbrev decreases-loop : tie.decreases-loop-i
 decreases-loop terms arrangement classes₀ i₀ classes i = 12 - i
 
 pub classes_spec : {M : Type 1} → statement M

@@ -3,10 +3,10 @@ use Rattle.std.proofs.Common.{◌-◌, ◌≤◌, rules}
 use Rattle.compare.proofs.models.part.Statement.{statement}
 use Rattle.compare.proofs.models.part.Tie as tie
 
-abbrev invariant-loop : tie.invariant-loop
+abbrev invariant-loop : tie.invariant-loop-d
 invariant-loop size x masks part₀ d₀ part d = d ≤ 12
 
-abbrev decreases-loop : tie.decreases-loop
+abbrev decreases-loop : tie.decreases-loop-d
 decreases-loop size x masks part₀ d₀ part d = 12 - d
 
 pub part_spec : {M : Type 1} → statement M

@@ -3,10 +3,10 @@ use Rattle.std.proofs.Common.{◌≡◌, ◌-◌, ◌≤◌, length, refl, arith
 use Rattle.compare.proofs.models.parts.Statement.{statement}
 use Rattle.compare.proofs.models.parts.Tie as tie
 
-abbrev invariant-loop : tie.invariant-loop
+abbrev invariant-loop : tie.invariant-loop-x
 invariant-loop masks size sets parts₀ x₀ parts x = (x ≤ 16) × (length parts ≡ 16)
 
-abbrev decreases-loop : tie.decreases-loop
+abbrev decreases-loop : tie.decreases-loop-x
 decreases-loop masks size sets parts₀ x₀ parts x = 16 - x
 
 pub parts_spec : {M : Type 1} → statement M

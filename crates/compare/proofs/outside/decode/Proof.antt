@@ -3,10 +3,10 @@ use Rattle.std.proofs.Common.{◌≡◌, ◌-◌, ◌≤◌, length, refl, arith
 use Rattle.compare.proofs.outside.decode.Statement.{statement}
 use Rattle.compare.proofs.outside.decode.Tie as tie
 
-abbrev invariant-loop : tie.invariant-loop
+abbrev invariant-loop : tie.invariant-loop-i
 invariant-loop input from bytes₀ total₀ i₀ bytes total i = (from ≤ i) × (i ≤ length input) × (total ≤ length bytes) × (length bytes ≡ length bytes₀)
 
-abbrev decreases-loop : tie.decreases-loop
+abbrev decreases-loop : tie.decreases-loop-i
 decreases-loop input from bytes₀ total₀ i₀ bytes total i = length input - i
 
 pub decode_spec : {M : Type 1} → statement M

@@ -3,10 +3,10 @@ use Rattle.std.proofs.Common.{◌-◌, rules}
 use Rattle.compare.proofs.said.joined.Statement.{statement}
 use Rattle.compare.proofs.said.joined.Tie as tie
 
-abbrev invariant-loop : tie.invariant-loop
+abbrev invariant-loop : tie.invariant-loop-c
 invariant-loop a t d c₀ c = Unit {0}
 
-abbrev decreases-loop : tie.decreases-loop
+abbrev decreases-loop : tie.decreases-loop-c
 decreases-loop a t d c₀ c = d - c
 
 pub joined_spec : {M : Type 1} → statement M

@@ -3,10 +3,10 @@ use Rattle.std.proofs.Common.{◌-◌, rules}
 use Rattle.compare.proofs.said.model_said.Statement.{statement}
 use Rattle.compare.proofs.said.model_said.Tie as tie
 
-abbrev invariant-loop : tie.invariant-loop
+abbrev invariant-loop : tie.invariant-loop-d
 invariant-loop a t all sets m₀ d₀ m d = Unit {0}
 
-abbrev decreases-loop : tie.decreases-loop
+abbrev decreases-loop : tie.decreases-loop-d
 decreases-loop a t all sets m₀ d₀ m d = all - d
 
 pub model_said_spec : {M : Type 1} → statement M

@@ -3,10 +3,10 @@ use Rattle.std.proofs.Common.{◌≡◌, ◌-◌, length, refl, arith, rules}
 use Rattle.compare.proofs.said.put_all.Statement.{statement}
 use Rattle.compare.proofs.said.put_all.Tie as tie
 
-abbrev invariant-loop : tie.invariant-loop
+abbrev invariant-loop : tie.invariant-loop-i
 invariant-loop words at buf₀ next₀ i₀ buf next i = length buf ≡ length buf₀
 
-abbrev decreases-loop : tie.decreases-loop
+abbrev decreases-loop : tie.decreases-loop-i
 decreases-loop words at buf₀ next₀ i₀ buf next i = length words - i
 
 pub put_all_spec : {M : Type 1} → statement M

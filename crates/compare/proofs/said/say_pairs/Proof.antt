@@ -3,10 +3,10 @@ use Rattle.std.proofs.Common.{◌≡◌, ◌-◌, ◌≤◌, length, refl, arith
 use Rattle.compare.proofs.said.say_pairs.Statement.{statement}
 use Rattle.compare.proofs.said.say_pairs.Tie as tie
 
-abbrev invariant-loop : tie.invariant-loop
+abbrev invariant-loop : tie.invariant-loop-k
 invariant-loop a t terms buf₀ now₀ k₀ buf now k = (k ≤ 144) × (length buf ≡ length buf₀)
 
-abbrev decreases-loop : tie.decreases-loop
+abbrev decreases-loop : tie.decreases-loop-k
 decreases-loop a t terms buf₀ now₀ k₀ buf now k = 144 - k
 
 pub say_pairs_spec : {M : Type 1} → statement M

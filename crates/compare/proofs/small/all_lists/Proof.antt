@@ -3,10 +3,10 @@ use Rattle.std.proofs.Common.{◌-◌, ◌≤◌, rules}
 use Rattle.compare.proofs.small.all_lists.Statement.{statement}
 use Rattle.compare.proofs.small.all_lists.Tie as tie
 
-abbrev invariant-loop : tie.invariant-loop
+abbrev invariant-loop : tie.invariant-loop-k
 invariant-loop elements sets count end counted₀ k₀ counted k = k ≤ end
 
-abbrev decreases-loop : tie.decreases-loop
+abbrev decreases-loop : tie.decreases-loop-k
 decreases-loop elements sets count end counted₀ k₀ counted k = end - k
 
 pub all_lists_spec : {M : Type 1} → statement M

@@ -3,10 +3,10 @@ use Rattle.std.proofs.Common.{◌-◌, ◌≤◌, rules}
 use Rattle.compare.proofs.small.all_shapes.Statement.{statement}
 use Rattle.compare.proofs.small.all_shapes.Tie as tie
 
-abbrev invariant-loop : tie.invariant-loop
+abbrev invariant-loop : tie.invariant-loop-shape
 invariant-loop counted₀ shape₀ counted shape = shape ≤ 9
 
-abbrev decreases-loop : tie.decreases-loop
+abbrev decreases-loop : tie.decreases-loop-shape
 decreases-loop counted₀ shape₀ counted shape = 9 - shape
 
 pub all_shapes_spec : {M : Type 1} → statement M

@@ -13,10 +13,10 @@ use Rattle.compare.proofs.trials.+sets_exist.Tie.{close}
 abbrev μ_sets_exist : Measures 0 kinds.ps ℕ
 μ_sets_exist κs a = 4 - a.1.1.1.1.1.0
 
-abbrev invariant-loop : lts.invariant-loop
+abbrev invariant-loop : lts.invariant-loop-q
 invariant-loop q whole v known place order x p₀ p = p ≤ whole
 
-abbrev decreases-loop : lts.decreases-loop
+abbrev decreases-loop : lts.decreases-loop-q
 decreases-loop q whole v known place order x p₀ p = whole - p
 
 abbrev here : ℕ → In 0 kinds.ps
@@ -32,8 +32,8 @@ claims t = (
   sets-exist.Post,
 )
 
-pub +sets-exist-spec : {M : Type 1} → statement M
-+sets-exist-spec =
+pub +sets_exist_spec : {M : Type 1} → statement M
++sets_exist_spec =
     close μ_sets_exist λ t. lts.spec (claims t) (here t) sets-exist.Post invariant-loop decreases-loop
     (λ c κs. search rules)
     (λ c. search rules)

@@ -3,10 +3,10 @@ use Rattle.std.proofs.Common.{◌-◌, ◌≤◌, rules}
 use Rattle.compare.proofs.trials.differences.Statement.{statement}
 use Rattle.compare.proofs.trials.differences.Tie as tie
 
-abbrev invariant-loop : tie.invariant-loop
+abbrev invariant-loop : tie.invariant-loop-i
 invariant-loop q count total₀ i₀ total i = i ≤ 64
 
-abbrev decreases-loop : tie.decreases-loop
+abbrev decreases-loop : tie.decreases-loop-i
 decreases-loop q count total₀ i₀ total i = 64 - i
 
 pub differences_spec : {M : Type 1} → statement M

@@ -3,10 +3,10 @@ use Rattle.std.proofs.Common.{◌-◌, ◌≤◌, rules}
 use Rattle.compare.proofs.trials.exists.Statement.{statement}
 use Rattle.compare.proofs.trials.exists.Tie as tie
 
-abbrev invariant-loop : tie.invariant-loop
+abbrev invariant-loop : tie.invariant-loop-size
 invariant-loop q p order v size₀ most size = size ≤ 255
 
-abbrev decreases-loop : tie.decreases-loop
+abbrev decreases-loop : tie.decreases-loop-size
 decreases-loop q p order v size₀ most size = 256 - size
 
 pub exists_spec : {M : Type 1} → statement M

@@ -16,7 +16,7 @@ behind c =
     let p = c in
     omega (arith, p.piece_length-n.ensures, until_within space p.args.line.now, c.if-n-line.false)
 
-returns : tie.Need-returns
+returns : tie.Need-returns-then-n-line
 returns c =
     let a = c.args in
     c.at_stage.ensures ∙ sym (line_of_one a.most a.r a.line.now c.piece_length-n.result c.piece_length-n.ensures c.if-n-line.true)
@@ -42,7 +42,6 @@ value_line_spec =
     (λ c κs. search rules)
     returns
     slice_aggregate_same_bytes
-    (λ c. search rules)
     (λ c κs. search rules)
     (λ c. omega (arith, behind c.before.before.before.before))
     (λ c. omega (arith, behind c.before.before.before.before))

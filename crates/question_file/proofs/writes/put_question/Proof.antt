@@ -17,7 +17,7 @@ use Rattle.question_file.proofs.writes.put_question.Tie as tie
 -- field 01 is written
 begun : (c : tie.After-slice_known-2-1) →
     let p = c.put_field-first in let a = c.args in
-    Run (question_bytes a.q) a.buf.now (statements_bytes (statements a.q) ++ end_bytes) p.new.1.1.0 p.result
+    Run (question_bytes a.q) a.buf.now (statements_bytes (statements a.q) ++ end_bytes) p.new.buf p.result
 unfolding file_bytes
 begun c =
     let p = c.put_field-first in
@@ -29,7 +29,7 @@ begun c =
 -- the statements' fields and 7F fit behind it
 first_fits : (c : tie.After-slice_known-2-1) →
     let p = c.put_field-first in let a = c.args in
-    (length p.new.1.1.0 ≡ length a.buf.now) × (p.result + (length (statements_bytes (statements a.q)) + 3) ≤ length p.new.1.1.0)
+    (length p.new.buf ≡ length a.buf.now) × (p.result + (length (statements_bytes (statements a.q)) + 3) ≤ length p.new.buf)
 first_fits c =
     let s = c in
     let room = run_room (begun c) s.requires.1 in
@@ -39,17 +39,17 @@ first_fits c =
 most : (c : tie.After-slice_known-3-1) →
     let p = c.put_statements-middle in let f = c.put_field-first in
     let a = c.args in
-    Run (question_bytes a.q) a.buf.now end_bytes (put_mid f.result (length f.new.1.1.0 - f.result) f.new.1.1.0 p.new.1.0) (f.result + p.result)
+    Run (question_bytes a.q) a.buf.now end_bytes (put_mid f.result (length f.new.buf - f.result) f.new.buf p.new.buf) (f.result + p.result)
 most c =
     let p = c.put_statements-middle in
     let a = c.args in
-    rw p.ensures.0 (run_on (statements_bytes (statements a.q)) end_bytes p.new.1.0 (begun c.before.before.before.before) p.ensures.1)
+    rw p.ensures.0 (run_on (statements_bytes (statements a.q)) end_bytes p.new.buf (begun c.before.before.before.before) p.ensures.1)
 
 -- 7F fits behind them
 last_fits : (c : tie.After-slice_known-3-1) →
     let p = c.put_statements-middle in let f = c.put_field-first in
     let a = c.args in
-    let buf = put_mid f.result (length f.new.1.1.0 - f.result) f.new.1.1.0 p.new.1.0 in
+    let buf = put_mid f.result (length f.new.buf - f.result) f.new.buf p.new.buf in
     (length buf ≡ length a.buf.now) × (f.result + p.result + 3 ≤ length buf)
 last_fits c =
     let s = c in
@@ -61,11 +61,11 @@ returns c =
     let p = c.put_field in
     let m = c in
     let f = m.put_field-first in
-    let buf = put_mid f.result (length f.new.1.1.0 - f.result) f.new.1.1.0 m.put_statements-middle.new.buf in
+    let buf = put_mid f.result (length f.new.buf - f.result) f.new.buf m.put_statements-middle.new.buf in
     let at = f.result + m.put_statements-middle.result in
     let part = take (length buf - at) (drop at buf) in
     let room : 3 ≤ length part = simp (length-take, length-drop) (omega (arith, (last_fits m.before.before.before.before.before.before).1)) in
-    (run_end (run_on end_bytes [] p.new.1.1.0 (most m.before.before.before.before.before.before) (p.ensures.1 ∙ (written 0x7f [] part (omega arith) (omega arith)).1))).1
+    (run_end (run_on end_bytes [] p.new.buf (most m.before.before.before.before.before.before) (p.ensures.1 ∙ (written 0x7f [] part (omega arith) (omega arith)).1))).1
 
 pub put_question_spec : {M : Type 1} → statement M
 put_question_spec =
@@ -76,11 +76,10 @@ put_question_spec =
     (λ c. omega (arith, (first_fits c).1))
     (λ c. omega (arith, (first_fits c).1))
     (λ c. search rules)
-    (λ c κs. (c.before.before.before.before.before.before.before.requires.0, simp (length-take, length-drop) (omega (arith, (first_fits c.before).1))))
+    (λ c κs. (c.requires.0, simp (length-take, length-drop) (omega (arith, (first_fits c.before).1))))
     (λ c. let f = last_fits c in omega (arith, f.0, f.1))
-    (λ c. search rules)
-    (λ c. omega (arith, (last_fits c.before).1))
-    (λ c. omega (arith, (last_fits c.before).1))
+    (λ c. omega (arith, (last_fits c.before.before).1))
+    (λ c. omega (arith, (last_fits c.before.before).1))
     (λ c. search rules)
     (λ c κs. search rules)
     (λ c. search rules)

@@ -46,7 +46,7 @@ loop-again c =
     let q = l.args.q in
     let p = c.put_statement-at in
     let s = (get_or q.table l.loop-i.i idle).statement in
-    (omega arith, rw p.ensures.0 (run_on (statement_bytes s) (bytes_from q (l.loop-i.i + 1)) p.new.1.0 (turned t.before.before.before.before.before) p.ensures.1))
+    (omega arith, rw p.ensures.0 (run_on (statement_bytes s) (bytes_from q (l.loop-i.i + 1)) p.new.buf (turned t.before.before.before.before.before) p.ensures.1))
 
 returns : tie.Need-returns invariant-loop decreases-loop
 returns c =

@@ -78,7 +78,7 @@ loop-again c =
     let rest : ℕ → List ℕ = λ v. rows_from a.q a.terms (l.loop-i.i + 1) (l.loop-i.witness + v) in (
       omega arith,
       omega (arith, l.loop-i.invariant.1, few c.before.before.before.before),
-      run_next (statement_rows a.terms l.loop-i.witness s) (rest (witness s)) (rest own.result) put.new.1.1.1.0 put.result
+      run_next (statement_rows a.terms l.loop-i.witness s) (rest (witness s)) (rest own.result) put.new.rows put.result
           (turned c.before.before.before.before.before.before) put.ensures.1 put.ensures.0 (ap rest own.ensures),
     )
 

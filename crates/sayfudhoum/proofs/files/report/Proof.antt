@@ -20,10 +20,10 @@ use Rattle.sayfudhoum.proofs.files.report.Tie as tie
 nine : (c : tie.After-field_length-2) → c.field_length.result + c.field_length-2.result ≡ 9
 nine c = omega (arith, c.field_length.ensures, c.field_length-2.ensures, report_sized)
 
-returns : tie.Need-returns
+returns : tie.Need-returns-then-buf-length
 returns c =
     let a = c.args in
-    let short = too_short (report_bytes a.refusal) a.buf.now (omega (arith, report_length a.refusal, nine c.before.before.before.before.before.before.before.before.before.before.before.before.before.before, c.if-buf-length.true)) in
+    let short = too_short (report_bytes a.refusal) a.buf.now (omega (arith, report_length a.refusal, nine c.before.before, c.if-buf-length.true)) in
     (ap Refused c.new.ensures ∙ sym short.0, sym short.1)
 
 -- there is room for nine
@@ -32,17 +32,17 @@ room c = omega (arith, nine c.before.before.before.before.before.before.before.b
 
 -- field 44 is written
 begun : (c : tie.After-put_field-arg-2-1) → let p = c.put_field-first in let a = c.args in
-    Run (report_bytes a.refusal) a.buf.now end_bytes p.new.1.1.0 p.result
+    Run (report_bytes a.refusal) a.buf.now end_bytes p.new.buf p.result
 begun c =
     let p = c.put_field-first in
     let a = c.args in
     let body = a.refusal.number ∷ a.refusal.place / 256 % 256 ∷ a.refusal.place % 256 ∷ [] in
     let whole = written 0x44 body a.buf.now (omega arith) (omega (arith, room c)) in
-    subst (λ l. Run l a.buf.now end_bytes p.new.1.1.0 p.result) (sym (report_body a.refusal)) (run_first (field_bytes 0x44 body) end_bytes (p.ensures.0 ∙ whole.0) (p.ensures.1 ∙ whole.1))
+    subst (λ l. Run l a.buf.now end_bytes p.new.buf p.result) (sym (report_body a.refusal)) (run_first (field_bytes 0x44 body) end_bytes (p.ensures.0 ∙ whole.0) (p.ensures.1 ∙ whole.1))
 
 -- 7F fits behind it
 fits : (c : tie.After-put_field-arg-2-1) → let p = c.put_field-first in let a = c.args in
-    (length p.new.1.1.0 ≡ length a.buf.now) × (p.result + 3 ≤ length p.new.1.1.0)
+    (length p.new.buf ≡ length a.buf.now) × (p.result + 3 ≤ length p.new.buf)
 fits c =
     let a = c.args in
     let r = run_room (begun c) (omega (arith, room c, report_length a.refusal)) in
@@ -53,7 +53,7 @@ returns-2 c =
     let m = c in
     let f = m.put_field-first in
     let a = c.args in
-    let buf = f.new.1.1.0 in
+    let buf = f.new.buf in
     let part = take (length buf - f.result) (drop f.result buf) in
     let behind : 3 ≤ length part = simp (length-take, length-drop) (omega (arith, (fits m.before.before.before.before.before).1)) in
     let all = (run_end (run_on end_bytes [] c.put_field.new.buf (begun m.before.before.before.before.before) (c.put_field.ensures.1 ∙ (written 0x7f [] part (omega arith) (omega arith)).1))).1 in
@@ -73,9 +73,8 @@ report_spec =
     (λ c. search rules)
     (λ c. search rules)
     (λ c κs. search rules)
-    (λ c. search rules)
-    (λ c. omega (arith, (fits c).1))
-    (λ c. omega (arith, (fits c).1))
+    (λ c. omega (arith, (fits c.before).1))
+    (λ c. omega (arith, (fits c.before).1))
     (λ c. search rules)
     (λ c κs. search rules)
     (λ c. search rules)
