@@ -14,7 +14,7 @@ use Rattle.answer.proofs.reads.read_file.Statement.{statement}
 use Rattle.answer.proofs.reads.read_file.Tie as tie
 
 -- the frame is refused
-refused : (c : tie.In-Refused) → let a = c.args in due_frame 0x40 0 a.bytes.now ≡ BadFrame c.in-Refused.refusal
+refused : (c : tie.In-Refused) → let a = c.args in due_frame 0x40 0 a.bytes.now ≡ BadFrame c.in-Refused.number
 refused c = sym c.frame_at.ensures ∙ c.in-Refused.is
 
 sound : (c : tie.In-Sound) →

@@ -24,7 +24,7 @@ use Rattle.answer.proofs.reads.read_masks.Statement.{statement}
 use Rattle.answer.proofs.reads.read_masks.Tie as tie
 
 -- the frame is refused
-refused : (c : tie.In-Refused) → let a = c.args in due_frame 0x42 (a.classes * mask_bytes) (drop a.at a.bytes.now) ≡ BadFrame c.in-Refused.refusal
+refused : (c : tie.In-Refused) → let a = c.args in due_frame 0x42 (a.classes * mask_bytes) (drop a.at a.bytes.now) ≡ BadFrame c.in-Refused.number
 refused c = sym c.frame_at.ensures ∙ c.in-Refused.is
 
 sound : (c : tie.In-Sound) →

@@ -66,17 +66,17 @@ abbrev raised_bit : tie.In-Next invariant-entries decreases-entries invariant-ma
 raised_bit c = c.in-Next.q
 
 -- it is one of the mask's bits, and the mask lacks it
-lacks : (c : tie.In-Next invariant-entries decreases-entries invariant-masks decreases-masks) → let l = (walked c).before in (raised_bit c < l.before.width.result) × (bit l.masks.m (raised_bit c) ≡ false)
+lacks : (c : tie.In-Next invariant-entries decreases-entries invariant-masks decreases-masks) → let l = (walked c).before in (raised_bit c < l.width-bits.result) × (bit l.masks.m (raised_bit c) ≡ false)
 lacks c = let t = rw c.in-Next.is at c.next_mask.ensures in (t.0, t.1)
 
 word : (c : tie.In-Next invariant-entries decreases-entries invariant-masks decreases-masks) → raised_bit c < 32
-word c = omega (arith, (lacks c).0, (walked c).before.before.width.ensures)
+word c = omega (arith, (lacks c).0, (walked c).width-bits.ensures)
 
 -- the mask raised is larger, and has as many bits
-larger : (c : tie.After-raise-m invariant-entries decreases-entries invariant-masks decreases-masks) → let l = (walked c.before).before in (l.masks.m < c.raise-m.result) × (c.raise-m.result < 2 ^ l.before.width.result)
+larger : (c : tie.After-raise-m invariant-entries decreases-entries invariant-masks decreases-masks) → let l = (walked c.before).before in (l.masks.m < c.raise-m.result) × (c.raise-m.result < 2 ^ l.width-bits.result)
 larger c =
     let l = (walked c.before).before in
-    rw c.raise-m.ensures (raised_larger l.before.width.result l.masks.m (raised_bit c.before) (lacks c.before).0 l.masks.inv.0 (lacks c.before).1)
+    rw c.raise-m.ensures (raised_larger l.width-bits.result l.masks.m (raised_bit c.before) (lacks c.before).0 l.masks.invariant.0 (lacks c.before).1)
 
 masks_again : tie.Need-masks-preserved invariant-entries decreases-entries invariant-masks decreases-masks
 masks_again c =
@@ -87,8 +87,8 @@ masks_again c =
     let e = c.raise-m.ensures in
     let t = rw k.in-Next.is at k.next_mask.ensures in
     let n = c.note_up_to-noted in
-    let met = meets_raised l.before.width.result a.class a.entries.now l.masks.m _ w.entries.i n.result (raised_bit k.before.before.before.before.before) c.back_to-i.result w.entries.inv n.ensures.1 n.ensures.0 t.0 t.1 c.back_to-i.ensures.0 c.back_to-i.ensures.1 in
-    ((larger c.before.before.before.before).1, rw e (t.2 (meets_all (rows_of_entries a.entries.now) a.class) l.masks.inv.1 (decided k.before.before.before.before.before.before.before.before)), rw e met, n.ensures.1)
+    let met = meets_raised l.width-bits.result a.class a.entries.now l.masks.m _ w.entries.i n.result (raised_bit k.before.before.before.before.before) c.back_to-i.result w.entries.invariant n.ensures.1 n.ensures.0 t.0 t.1 c.back_to-i.ensures.0 c.back_to-i.ensures.1 in
+    ((larger c.before.before.before.before).1, rw e (t.2 (meets_all (rows_of_entries a.entries.now) a.class) l.masks.invariant.1 (decided k.before.before.before.before.before.before.before.before)), rw e met, n.ensures.1)
 
 returns : tie.Need-returns-then-i-entries invariant-entries decreases-entries invariant-masks decreases-masks
 returns c =
@@ -106,8 +106,8 @@ returns-2 c =
     let k = c in
     let l = (walk k.before.before.before.before.before).before in
     let a = (given l).args in
-    let t = rw (c.in-Over.is, l.before.width.ensures) at c.next_mask.ensures in
-    sym (ap smallest_of (least_mask_one (2 ^ min a.sets 32) (rows_of_entries a.entries.now) a.class none (t (meets_all (rows_of_entries a.entries.now) a.class) l.masks.inv.1 (decided k.before.before.before))))
+    let t = rw (c.in-Over.is, l.width-bits.ensures) at c.next_mask.ensures in
+    sym (ap smallest_of (least_mask_one (2 ^ min a.sets 32) (rows_of_entries a.entries.now) a.class none (t (meets_all (rows_of_entries a.entries.now) a.class) l.masks.invariant.1 (decided k.before.before.before))))
 
 pub smallest_mask_spec : {M : Type 1} → statement M
 smallest_mask_spec =
@@ -128,10 +128,10 @@ smallest_mask_spec =
     (λ c. search rules)
     (λ c. search rules)
     entries_again
-    (λ c κs. (search rules, (walk c.before.before.before).before.masks.inv.0))
+    (λ c κs. (search rules, (walk c.before.before.before).before.masks.invariant.0))
     (λ c. search rules)
     (λ c κs. (word c, (lacks c).1))
-    (λ c κs. let w = walked c.before.before in (search rules, search rules, w.before.masks.inv.3))
+    (λ c κs. let w = walked c.before.before in (search rules, search rules, w.before.masks.invariant.3))
     (λ c κs. (word c.before.before.before.before, c.note_up_to-noted.ensures.1.notes.small _))
     (λ c. omega (arith, (larger c.before.before.before.before).0, (larger c.before.before.before.before).1))
     masks_again

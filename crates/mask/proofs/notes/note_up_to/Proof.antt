@@ -25,8 +25,8 @@ loop-again c =
     let noted : List ℕ → Type 0 = λ first. NotesBefore a.bits a.class es first (l.i + 1) in
     let is = sym c.is_asked.ensures in
     ⊎_elim
-    (λ w. subst noted (sym w.5) (before_noted a.bits a.class es l.first _ l.i l.invariant (asked a.class (get_or es l.i 0) (is ∙ w.0.taken)) (rw (w.3.ensures, w.2.ensures) at w.4.ensures)))
-    (λ w. subst noted (sym w.1) (before_over a.bits a.class es l.first l.i l.invariant (not_asked a.class (get_or es l.i 0) (is ∙ w.0.left))))
+    (λ w. subst noted (sym w.first-is) (before_noted a.bits a.class es l.first _ l.i l.invariant (asked a.class (get_or es l.i 0) (is ∙ w.if-is_asked.true)) (rw (w.lowest_set.ensures, w.row_in.ensures) at w.note.ensures)))
+    (λ w. subst noted (sym w.first-is) (before_over a.bits a.class es l.first l.i l.invariant (not_asked a.class (get_or es l.i 0) (is ∙ w.if-is_asked.false))))
     c.if-is_asked.branch-raw
 
 pub note_up_to_spec : {M : Type 1} → statement M

@@ -36,8 +36,8 @@ loop-again c =
       search rules,
       l.invariant.1,
       ⊎_elim
-          (λ w. subst carried (sym w.4) (carried_resolve a.m l.why a.decided l.q l.c (sym w.1.ensures ∙ not-false w.1.result w.2.left) l.invariant.2))
-          (λ w. subst carried (sym w.1) (carried_pass a.m l.why a.decided l.q l.c (sym c.bit.ensures ∙ w.0.left) l.invariant.2))
+          (λ w. subst carried (sym w.c-is) (carried_resolve a.m l.why a.decided l.q l.c (sym w.bit-then-bit.ensures ∙ w.if-not-bit.false) l.invariant.2))
+          (λ w. subst carried (sym w.c-is) (carried_pass a.m l.why a.decided l.q l.c (sym c.bit.ensures ∙ w.if-bit.false) l.invariant.2))
           c.if-bit.branch-raw,
     )
 
