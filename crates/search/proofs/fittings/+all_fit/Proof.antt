@@ -150,7 +150,7 @@ module _ (t : ℕ) where
       let l = turn in
       let s = start l.before.before in
       let group = get_or s.args.groups.terms l.loop-k.k 0 in
-      let small = joined_small group s.args.ahead.term (room (first l.before.before)) (s.pre.1.1.0.small l.loop-k.k turn.loop-k-test.true) in
+      let small = joined_small group s.args.ahead.term (room (first l.before.before)) (s.requires.1.1.0.small l.loop-k.k turn.loop-k-test.true) in
       (ready (first l.before.before) l.loop-k.invariant.2, subst (λ n. bit_or group n < group_count) (sym (own_is l.before.before)) small)
 
   in-group-requires : lts.Need-all_fit-requires-then-part_fits claims here all-fit.Post invariant-loop decreases-loop
@@ -159,7 +159,7 @@ module _ (t : ℕ) where
       let l = turn in
       let e = first l.before.before.before.before.before.before.before.before in
       let s = start l.before.before.before.before.before.before.before.before in
-      let p = s.pre in
+      let p = s.requires in
       let next = c.with_term-more in (
         omega (arith, some_left e, p.0),
         (
@@ -223,7 +223,7 @@ module _ (t : ℕ) where
       let l = c in
       let e = first l.before.before.before.before.before.before.before.before in
       let s = start l.before.before.before.before.before.before.before.before in
-      let p = s.pre in
+      let p = s.requires in
       let next = c.with_group-more in (
         omega (arith, some_left e, p.0),
         (
@@ -270,17 +270,17 @@ pub +all_fit_spec : {M : Type 1} → statement M
     (λ c. omega (arith, inside t c))
     (λ c. omega (arith, inside t c))
     (part-requires t)
-    (λ c κs. let turn = c.before.before.before.before.before in (omega (arith, turn.loop-test.true, (start t turn.before).pre.1.1.1.0, room t (first t turn.before)), room t (first t turn.before)))
+    (λ c κs. let turn = c.before.before.before.before.before in (omega (arith, turn.loop-test.true, (start t turn.before).requires.1.1.1.0, room t (first t turn.before)), room t (first t turn.before)))
     (in-group-requires t)
-    (λ c. c.before.before.before.all-fit2.ensures.1.long ∙ sym (start t c.before.before.before.before.before.before.before.before.before.before.before.before).pre.1.0.remembered.long)
+    (λ c. c.before.before.before.all-fit2.ensures.1.long ∙ sym (start t c.before.before.before.before.before.before.before.before.before.before.before.before).requires.1.0.remembered.long)
     (λ c. ((λ r. absurd (true≢false r)), c.before.before.before.all-fit2.ensures.1))
     (λ c. search rules)
     (λ c. search rules)
     (loop-again t)
     (alone-requires t)
-    (λ c. c.before.before.before.part-fits2.ensures.1.long ∙ sym (start t c.before.before.before.before.before.before).pre.1.0.remembered.long)
+    (λ c. c.before.before.before.part-fits2.ensures.1.long ∙ sym (start t c.before.before.before.before.before.before).requires.1.0.remembered.long)
     (returns-4 t)
     (λ c κs. let l = c.before.before.before.before.before.before in (omega (arith, (start t l).requires.1.1.1.0, room t (first t l)), room t (first t l)))
     (new-group-requires t)
-    (λ c. c.before.before.all-fit3.ensures.1.long ∙ sym (start t c.before.before.before.before.before.before.before.before.before.before.before).pre.1.0.remembered.long)
+    (λ c. c.before.before.all-fit3.ensures.1.long ∙ sym (start t c.before.before.before.before.before.before.before.before.before.before.before).requires.1.0.remembered.long)
     (returns-5 t)

@@ -26,10 +26,10 @@ abbrev start : tie.At-loop-k invariant-loop decreases-loop → tie.Start invaria
 start l = l.before.before.before.before
 
 inside : (c : tie.In-loop-k invariant-loop decreases-loop) → c.loop-k.k < max_terms
-inside c = let here = (start c.before).pre.1.1.0 in omega (arith, c.loop-k-test.true, here.few_classes, here.few_terms)
+inside c = let here = (start c.before).requires.1.1.0 in omega (arith, c.loop-k-test.true, here.few_classes, here.few_terms)
 
 its_terms : (c : tie.In-loop-k invariant-loop decreases-loop) → let a = (start c.before).args in get_or a.groups.terms c.loop-k.k 0 ≡ members (take a.terms a.arrangement) c.loop-k.k
-its_terms c = (start c.before).pre.1.1.1.are c.loop-k.k (inside c)
+its_terms c = (start c.before).requires.1.1.1.are c.loop-k.k (inside c)
 
 returns : tie.Need-returns-in_default invariant-loop decreases-loop
 returns c =
@@ -38,8 +38,8 @@ returns c =
     let s = start l.before.before.before.before in
     let a = s.args in
     let smallest = c.smallest_mask-smallest in
-    model_none a.entries.now a.sets a.arrangement a.terms a.groups.count s.pre.1.1.0 s.pre.1.0 l.loop-k.k _ (its_terms turn.before.before.before) c.without_model.result (omega arith)
-    (mask_lacks a.entries.now a.sets _ s.pre.0 smallest.result smallest.ensures c.in_default.is) c.without_model.ensures
+    model_none a.entries.now a.sets a.arrangement a.terms a.groups.count s.requires.1.1.0 s.requires.1.0 l.loop-k.k _ (its_terms turn.before.before.before) c.without_model.result (omega arith)
+    (mask_lacks a.entries.now a.sets _ s.requires.0 smallest.result smallest.ensures c.in_default.is) c.without_model.ensures
 
 loop-again : tie.Need-loop-k-preserved invariant-loop decreases-loop
 loop-again c =
@@ -51,8 +51,8 @@ loop-again c =
       omega arith,
       length-set l.loop-k.masks l.loop-k.k _ ∙ l.loop-k.invariant.1,
       rest_set l.loop-k.masks l.loop-k.k _ (inside turn.before.before) l.loop-k.invariant.2,
-      model_more a.entries.now a.sets a.arrangement a.terms a.groups.count s.pre.1.1.0 s.pre.1.0 l.loop-k.k _ (its_terms turn.before.before) l.loop-k.masks _ (omega (arith, inside turn.before.before))
-          (mask_is a.entries.now a.sets _ s.pre.0 smallest.result smallest.ensures _ c.in-At.is) l.loop-k.invariant.3,
+      model_more a.entries.now a.sets a.arrangement a.terms a.groups.count s.requires.1.1.0 s.requires.1.0 l.loop-k.k _ (its_terms turn.before.before) l.loop-k.masks _ (omega (arith, inside turn.before.before))
+          (mask_is a.entries.now a.sets _ s.requires.0 smallest.result smallest.ensures _ c.in-At.is) l.loop-k.invariant.3,
     )
 
 returns-2 : tie.Need-returns invariant-loop decreases-loop
@@ -61,7 +61,7 @@ returns-2 c =
     let s = start l.before in
     let a = s.args in
     let all : l.loop-k.k ≡ a.groups.count = omega arith in
-    model_all a.entries.now a.sets a.arrangement a.terms a.groups.count s.pre.1.1.0 s.pre.1.0 l.loop-k.masks _ l.loop-k.invariant.1 (subst (λ n. RestZero n l.loop-k.masks) all l.loop-k.invariant.2)
+    model_all a.entries.now a.sets a.arrangement a.terms a.groups.count s.requires.1.1.0 s.requires.1.0 l.loop-k.masks _ l.loop-k.invariant.1 (subst (λ n. RestZero n l.loop-k.masks) all l.loop-k.invariant.2)
     (subst (λ n. MasksTo a.entries.now a.sets (take a.terms a.arrangement) n l.loop-k.masks) all l.loop-k.invariant.3) refl
 
 pub model_spec : {M : Type 1} → statement M

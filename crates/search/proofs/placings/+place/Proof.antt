@@ -129,7 +129,7 @@ module _ (t : ℕ) where
   allowed c = omega (arith, c.loop-c-test.true)
 
   inside : (c : lts.In-loop-c claims here place.Post invariant-loop decreases-loop) → c.loop-c.c < max_terms
-  inside c = omega (arith, allowed c, (start c.before).pre.1.1.0.few_classes, room_here c.before)
+  inside c = omega (arith, allowed c, (start c.before).requires.1.1.0.few_classes, room_here c.before)
 
   place-requires : lts.Need-place-r-requires claims here place.Post invariant-loop decreases-loop
   place-requires c κs =
@@ -137,13 +137,13 @@ module _ (t : ℕ) where
       let s = start l.before.before.before in
       let a = s.args in
       let more = c.with_term-grown in (
-        fewer a.unplaced.term a.unplaced.left l.if-left-eq0.false t s.pre.0,
+        fewer a.unplaced.term a.unplaced.left l.if-left-eq0.false t s.requires.0,
         (
-          ready_next s.pre.1.0 l.if-left-eq0.false l.loop-c.invariant.2,
+          ready_next s.requires.1.0 l.if-left-eq0.false l.loop-c.invariant.2,
           (
-            placing_next s.pre.1.1.0 l.loop-c.c (room_here l.before.before.before) more.result.count (allowed c.before.before) (ap (λ (g : Groups). g.count) more.ensures),
+            placing_next s.requires.1.1.0 l.loop-c.c (room_here l.before.before.before) more.result.count (allowed c.before.before) (ap (λ (g : Groups). g.count) more.ensures),
             (
-              groups_next s.pre.1.1.0 s.pre.1.1.1.0 l.loop-c.c (room_here l.before.before.before) (inside c.before.before) more.result.terms (ap (λ (g : Groups). g.terms) more.ensures),
+              groups_next s.requires.1.1.0 s.requires.1.1.1.0 l.loop-c.c (room_here l.before.before.before) (inside c.before.before) more.result.terms (ap (λ (g : Groups). g.terms) more.ensures),
               declared s _ (as_many a.unplaced.term a.unplaced.left l.if-left-eq0.false),
             ),
           ),
@@ -156,7 +156,7 @@ module _ (t : ℕ) where
       let l = c in
       let s = start l.before.before.before.before in
       let a = s.args in
-      answer_next a.entries.now a.fixed.sets a.arrangement a.unplaced.term a.unplaced.left a.groups.count s.pre.1.1.0 l.loop-c.c c.place-r.result (room_here l.before.before.before.before) c.place-r.ensures.0
+      answer_next a.entries.now a.fixed.sets a.arrangement a.unplaced.term a.unplaced.left a.groups.count s.requires.1.1.0 l.loop-c.c c.place-r.result (room_here l.before.before.before.before) c.place-r.ensures.0
 
   returns-3 : lts.Need-returns-then-is_possible claims here place.Post invariant-loop decreases-loop
   returns-3 c =
@@ -202,11 +202,11 @@ pub +place_spec : {M : Type 1} → statement M
     (λ c κs. (inside t c, room_here t c.before))
     (place-requires t)
     (λ c κs. search rules)
-    (λ c. c.before.before.before.before.place.ensures.1.long ∙ sym (start t c.before.before.before.before.before.before.before.before).pre.1.0.remembered.long)
+    (λ c. c.before.before.before.before.place.ensures.1.long ∙ sym (start t c.before.before.before.before.before.before.before.before).requires.1.0.remembered.long)
     (returns-3 t)
-    (λ c. omega (arith, (start t c.before.before.before.before.before.before.before.before).pre.1.1.0))
+    (λ c. omega (arith, (start t c.before.before.before.before.before.before.before.before).requires.1.1.0))
     (λ c. search rules)
     (loop-again t)
     (λ c κs. search rules)
-    (λ c. c.before.before.loop.invariant.2.long ∙ sym (start t c.before.before).pre.1.0.remembered.long)
+    (λ c. c.before.before.loop.invariant.2.long ∙ sym (start t c.before.before).requires.1.0.remembered.long)
     (returns-4 t)

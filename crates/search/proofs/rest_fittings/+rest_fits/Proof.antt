@@ -114,10 +114,10 @@ module _ (t : ℕ) where
 
   -- the group is one of twelve, and with the term it is a group of terms
   inside : (c : lts.In-loop-k claims here rest-fits.Post invariant-loop decreases-loop) → c.loop-k.k < max_terms
-  inside c = omega (arith, c.loop-k-test.true, (start c.before).pre.1.1.1)
+  inside c = omega (arith, c.loop-k-test.true, (start c.before).requires.1.1.1)
 
   within : (c : lts.In-loop-k claims here rest-fits.Post invariant-loop decreases-loop) → c.loop-k.k < length (start c.before).args.groups.terms
-  within c = omega (arith, inside c, (start c.before).pre.1.1.0.long)
+  within c = omega (arith, inside c, (start c.before).requires.1.1.0.long)
 
   small : (c : lts.In-loop-k claims here rest-fits.Post invariant-loop decreases-loop) →
       bit_or (get_or (start c.before).args.groups.terms c.loop-k.k 0) c.term_alone-own.result < group_count
@@ -131,7 +131,7 @@ module _ (t : ℕ) where
       let turn = c in
       let l = turn in
       let s = start l.before.before.before.before.before.before.before.before in
-      let p = s.pre in
+      let p = s.requires in
       let next = c.with_term-more in (
         omega (arith, some_left (first l.before.before.before.before.before.before.before.before), p.0),
         (
@@ -164,7 +164,7 @@ module _ (t : ℕ) where
       (λ w. (
         omega arith,
         tried_lacks fits (2 ^ a.fixed.sets) rows known a.groups.terms a.groups.count (all_terms a.ahead) a.ahead.term known (λ d h. inl h) l.loop-k.k turn.loop-k-test.true (within turn.before.before.before.before.before) l.loop-k.invariant.1
-            (none_part set_tests (2 ^ a.fixed.sets) rows known (bit_or (get_or a.groups.terms l.loop-k.k 0) (2 ^ a.ahead.term)) (all_terms a.ahead) s.pre.1.0.asked_are
+            (none_part set_tests (2 ^ a.fixed.sets) rows known (bit_or (get_or a.groups.terms l.loop-k.k 0) (2 ^ a.ahead.term)) (all_terms a.ahead) s.requires.1.0.asked_are
             (ap (λ n. mask_of_group a.entries.now a.fixed.sets (bit_or (get_or a.groups.terms l.loop-k.k 0) n)) (sym (own_is l.before.before.before.before.before.before)) ∙ not_there (mask_of_group a.entries.now a.fixed.sets _) (sym asked.ensures.0 ∙ w.0.left))),
         subst (Memo a.entries.now a.fixed.sets) (sym w.1) asked.ensures.1,
       ))
@@ -180,7 +180,7 @@ module _ (t : ℕ) where
       let asked = l.needs_a_group in
       let alone = ap (mask_of_group a.entries.now a.fixed.sets) (sym (own_is l.before)) ∙ asked.ensures.0 (l.if-not-needs_a_group.false) in (
         λ r. tried_alone fits (2 ^ a.fixed.sets) rows known a.groups.terms a.groups.count (all_terms a.ahead) a.ahead.term known (λ d h. inl h) l.loop-k.k c.loop-k-test.false (omega (arith, some_left (first l.before))) l.loop-k.invariant.1
-            (none_part set_tests (2 ^ a.fixed.sets) rows known (2 ^ a.ahead.term) (all_terms a.ahead) s.pre.1.0.asked_are alone),
+            (none_part set_tests (2 ^ a.fixed.sets) rows known (2 ^ a.ahead.term) (all_terms a.ahead) s.requires.1.0.asked_are alone),
         l.loop-k.invariant.2,
       )
 
@@ -205,10 +205,10 @@ pub +rest_fits_spec : {M : Type 1} → statement M
     (λ c κs. let l = c.before.before in ((start t l).requires.1.0.few_sets, (l.loop.invariant.2, small t c.before)))
     (λ c κs. let turn = c.before.before.before.before.before in (inside t turn, room t (first t turn.before)))
     (in-group-requires t)
-    (λ c. c.before.before.before.rest-fits2.ensures.1.long ∙ sym (start t c.before.before.before.before.before.before.before.before.before.before.before.before).pre.1.0.remembered.long)
+    (λ c. c.before.before.before.rest-fits2.ensures.1.long ∙ sym (start t c.before.before.before.before.before.before.before.before.before.before.before.before).requires.1.0.remembered.long)
     (λ c. ((λ r. absurd (true≢false r)), c.before.before.before.rest-fits2.ensures.1))
     (λ c. search rules)
     (λ c. search rules)
     (loop-again t)
-    (λ c. c.before.loop.invariant.2.long ∙ sym (start t c.before).pre.1.0.remembered.long)
+    (λ c. c.before.loop.invariant.2.long ∙ sym (start t c.before).requires.1.0.remembered.long)
     (returns-4 t)

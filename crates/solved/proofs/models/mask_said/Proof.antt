@@ -40,8 +40,8 @@ loop-again c =
     let said : c.is_true.result ≡ truth (in_variable a.terms a.sets a.c l.x) = c.is_true.ensures ∙ ap truth c.in_variable.ensures in
     let next : c.if-is_true.mask ≡ mask_up_to a.terms a.sets truth (l.x + 1) a.c =
     ⊎_elim
-    (λ x. x.1 ∙ mask_hit a.terms a.sets truth a.c l.x l.mask l.bit l.invariant.2 l.invariant.1 (sym said ∙ x.0.taken))
-    (λ x. x.1 ∙ mask_miss a.terms a.sets truth a.c l.x l.mask l.invariant.2 (sym said ∙ x.0.left))
+    (λ x. x.mask-is ∙ mask_hit a.terms a.sets truth a.c l.x l.mask l.bit l.invariant.2 l.invariant.1 (sym said ∙ x.if-is_true.true))
+    (λ x. x.mask-is ∙ mask_miss a.terms a.sets truth a.c l.x l.mask l.invariant.2 (sym said ∙ x.if-is_true.false))
     c.if-is_true.branch-raw in
     (omega arith, rw (add-one l.x) (omega (arith, l.invariant.1)), next)
 
