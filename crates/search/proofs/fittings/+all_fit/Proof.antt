@@ -185,16 +185,16 @@ module _ (t : ℕ) where
         omega arith,
         tried_stuck fits (2 ^ a.fixed.sets) rows known a.groups.terms a.groups.count (all_terms a.ahead) a.ahead.term more (before_next a.fixed.asked a.ahead.term) l.loop-k.k turn.loop-k-test.true (inside turn.before.before.before.before.before) l.loop-k.invariant.1
             (with_term a.groups l.loop-k.k a.ahead.term).terms refl
-            (fits_joined a.entries.now a.fixed (a.ahead.term + 1) (all_terms a.ahead) a.groups l.loop-k.k a.ahead.term turn.loop-k-test.true w.1.result w.1.ensures
-            (subst (NothingFits a.entries.now a.fixed (a.ahead.term + 1) w.1.result) (sym (all (first l.before.before.before.before.before.before))) (w.3.ensures.0 w.6.left))),
-        subst (Memo a.entries.now a.fixed.sets) (sym w.7) w.3.ensures.1,
+            (fits_joined a.entries.now a.fixed (a.ahead.term + 1) (all_terms a.ahead) a.groups l.loop-k.k a.ahead.term turn.loop-k-test.true w.with_term-more.result w.with_term-more.ensures
+            (subst (NothingFits a.entries.now a.fixed (a.ahead.term + 1) w.with_term-more.result) (sym (all (first l.before.before.before.before.before.before))) (w.all_fit-then-part_fits.ensures.0 w.if-all_fit.false))),
+        subst (Memo a.entries.now a.fixed.sets) (sym w.memo-is) w.all_fit-then-part_fits.ensures.1,
       ))
       (λ w. (
         omega arith,
         tried_lacks fits (2 ^ a.fixed.sets) rows known a.groups.terms a.groups.count (all_terms a.ahead) a.ahead.term more (before_next a.fixed.asked a.ahead.term) l.loop-k.k turn.loop-k-test.true (inside turn.before.before.before.before.before) l.loop-k.invariant.1
             (subst (λ n. NoPart a.entries.now a.fixed (a.ahead.term + 1) (bit_or (get_or a.groups.terms l.loop-k.k 0) n) (all_terms a.ahead)) (own_is l.before.before.before.before.before.before)
-            (subst (NoPart a.entries.now a.fixed (a.ahead.term + 1) _) (sym (all (first l.before.before.before.before.before.before))) (asked.ensures.0 w.0.left))),
-        subst (Memo a.entries.now a.fixed.sets) (sym w.1) asked.ensures.1,
+            (subst (NoPart a.entries.now a.fixed (a.ahead.term + 1) _) (sym (all (first l.before.before.before.before.before.before))) (asked.ensures.0 w.if-part_fits.false))),
+        subst (Memo a.entries.now a.fixed.sets) (sym w.memo-is) asked.ensures.1,
       ))
       c.if-part_fits.branch-raw
 
@@ -253,34 +253,34 @@ pub +all_fit_spec : {M : Type 1} → statement M
 +all_fit_spec =
     close μ_all_fit λ t. lts.spec (claims t) (here t) all-fit.Post invariant-loop decreases-loop
     (settled-requires t)
-    (λ c. c.before.before.settled-fits.ensures.1.long ∙ sym c.before.before.before.before.before.before.before.requires.1.0.remembered.long)
+    (λ c. c.settled_fits.ensures.1.long ∙ sym c.requires.1.0.remembered.long)
     (returns t)
     (λ c. omega (arith, room t c))
     (λ c. some_left t c)
     (λ c κs. omega (arith, room t c))
     (skip-requires t)
-    (λ c. c.before.before.all-fit.ensures.1.long ∙ sym c.before.before.before.before.before.before.before.before.before.requires.1.0.remembered.long)
+    (λ c. c.all_fit.ensures.1.long ∙ sym c.requires.1.0.remembered.long)
     (returns-2 t)
     (λ c κs. omega (arith, room t c.before.before))
     (λ c.
-    let s = c.before.before.before.before.before.before.before in
+    let s = c in
     let a = s.args in
     (omega arith, tried_none fits (2 ^ a.fixed.sets) (rows_of_entries a.entries.now) (before a.fixed.asked a.ahead.term) a.groups.terms a.groups.count (all_terms a.ahead) a.ahead.term, s.requires.1.0.remembered))
     (λ c. search rules)
-    (λ c. omega (arith, inside t c))
-    (λ c. omega (arith, inside t c))
+    (λ c. omega (arith, c.loop-k-test.true, free t c.before))
+    (λ c. omega (arith, c.loop-k-test.true, free t c.before))
     (part-requires t)
-    (λ c κs. let turn = c.before.before.before.before.before in (omega (arith, turn.loop-test.true, (start t turn.before).requires.1.1.1.0, room t (first t turn.before)), room t (first t turn.before)))
+    (λ c κs. let turn = c in (omega (arith, turn.loop-k-test.true, (start t turn.before.before.before.before.before.before).requires.1.1.1.0, room t (first t turn.before.before.before.before.before.before)), room t (first t turn.before.before.before.before.before.before)))
     (in-group-requires t)
-    (λ c. c.before.before.before.all-fit2.ensures.1.long ∙ sym (start t c.before.before.before.before.before.before.before.before.before.before.before.before).requires.1.0.remembered.long)
-    (λ c. ((λ r. absurd (true≢false r)), c.before.before.before.all-fit2.ensures.1))
+    (λ c. c.all_fit-then-part_fits.ensures.1.long ∙ sym (start t c.before.before.before.before.before.before.before.before.before.before.before.before).requires.1.0.remembered.long)
+    (λ c. ((λ r. absurd (true≢false r)), c.all_fit-then-part_fits.ensures.1))
     (λ c. search rules)
     (λ c. search rules)
     (loop-again t)
     (alone-requires t)
-    (λ c. c.before.before.before.part-fits2.ensures.1.long ∙ sym (start t c.before.before.before.before.before.before).requires.1.0.remembered.long)
+    (λ c. c.part_fits-2.ensures.1.long ∙ sym (start t c.before.before.before.before.before.before).requires.1.0.remembered.long)
     (returns-4 t)
-    (λ c κs. let l = c.before.before.before.before.before.before in (omega (arith, (start t l).requires.1.1.1.0, room t (first t l)), room t (first t l)))
+    (λ c κs. let l = c in (omega (arith, (start t l.before.before.before.before.before.before).requires.1.1.1.0, room t (first t l.before.before.before.before.before.before)), room t (first t l.before.before.before.before.before.before)))
     (new-group-requires t)
-    (λ c. c.before.before.all-fit3.ensures.1.long ∙ sym (start t c.before.before.before.before.before.before.before.before.before.before.before).requires.1.0.remembered.long)
+    (λ c. c.all_fit-2.ensures.1.long ∙ sym (start t c.before.before.before.before.before.before.before.before.before.before.before).requires.1.0.remembered.long)
     (returns-5 t)

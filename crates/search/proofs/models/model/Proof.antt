@@ -72,8 +72,8 @@ model_spec =
     decreases-loop
     (λ c. let here = c.requires.1.1.0 in omega (arith, here.few_classes, here.few_terms))
     (λ c. let a = c.args in (omega arith, refl, refl, no_masks_yet a.entries.now a.sets (take a.terms a.arrangement) (padded max_terms [])))
-    (λ c. omega (arith, inside c))
-    (λ c. omega (arith, inside c))
+    (λ c. let here = c.requires.1.1.0 in omega (arith, c.loop-k-test.true, here.few_classes, here.few_terms))
+    (λ c. let here = c.requires.1.1.0 in omega (arith, c.loop-k-test.true, here.few_classes, here.few_terms))
     (λ c κs. search rules)
     (λ c. search rules)
     (λ c. search rules)

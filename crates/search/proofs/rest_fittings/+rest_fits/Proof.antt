@@ -157,16 +157,16 @@ module _ (t : ℕ) where
         omega arith,
         tried_stuck fits (2 ^ a.fixed.sets) rows known a.groups.terms a.groups.count (all_terms a.ahead) a.ahead.term known (λ d h. inl h) l.loop-k.k turn.loop-k-test.true (within turn.before.before.before.before.before) l.loop-k.invariant.1
             (with_term a.groups l.loop-k.k a.ahead.term).terms refl
-            (fits_joined a.entries.now a.fixed (all_terms a.ahead) (all_terms a.ahead) a.groups l.loop-k.k a.ahead.term turn.loop-k-test.true w.1.result w.1.ensures
-            (subst (λ n. NothingFits a.entries.now a.fixed n w.1.result n) (sym (all (first l.before.before.before.before.before.before))) (w.3.ensures.0 w.6.left))),
-        subst (Memo a.entries.now a.fixed.sets) (sym w.7) w.3.ensures.1,
+            (fits_joined a.entries.now a.fixed (all_terms a.ahead) (all_terms a.ahead) a.groups l.loop-k.k a.ahead.term turn.loop-k-test.true w.with_term-more.result w.with_term-more.ensures
+            (subst (λ n. NothingFits a.entries.now a.fixed n w.with_term-more.result n) (sym (all (first l.before.before.before.before.before.before))) (w.rest_fits-then-has_mask.ensures.0 w.if-rest_fits.false))),
+        subst (Memo a.entries.now a.fixed.sets) (sym w.memo-is) w.rest_fits-then-has_mask.ensures.1,
       ))
       (λ w. (
         omega arith,
         tried_lacks fits (2 ^ a.fixed.sets) rows known a.groups.terms a.groups.count (all_terms a.ahead) a.ahead.term known (λ d h. inl h) l.loop-k.k turn.loop-k-test.true (within turn.before.before.before.before.before) l.loop-k.invariant.1
             (none_part set_tests (2 ^ a.fixed.sets) rows known (bit_or (get_or a.groups.terms l.loop-k.k 0) (2 ^ a.ahead.term)) (all_terms a.ahead) s.requires.1.0.asked_are
-            (ap (λ n. mask_of_group a.entries.now a.fixed.sets (bit_or (get_or a.groups.terms l.loop-k.k 0) n)) (sym (own_is l.before.before.before.before.before.before)) ∙ not_there (mask_of_group a.entries.now a.fixed.sets _) (sym asked.ensures.0 ∙ w.0.left))),
-        subst (Memo a.entries.now a.fixed.sets) (sym w.1) asked.ensures.1,
+            (ap (λ n. mask_of_group a.entries.now a.fixed.sets (bit_or (get_or a.groups.terms l.loop-k.k 0) n)) (sym (own_is l.before.before.before.before.before.before)) ∙ not_there (mask_of_group a.entries.now a.fixed.sets _) (sym asked.ensures.0 ∙ w.if-has_mask.false))),
+        subst (Memo a.entries.now a.fixed.sets) (sym w.memo-is) asked.ensures.1,
       ))
       c.if-has_mask.branch-raw
 
@@ -187,28 +187,28 @@ module _ (t : ℕ) where
 pub +rest_fits_spec : {M : Type 1} → statement M
 +rest_fits_spec =
     close μ_rest_fits λ t. lts.spec (claims t) (here t) rest-fits.Post invariant-loop decreases-loop
-    (λ c. ((λ r. absurd (true≢false r)), c.before.before.before.requires.1.0.remembered))
+    (λ c. ((λ r. absurd (true≢false r)), c.requires.1.0.remembered))
     (λ c. omega (arith, room t c))
     (λ c. some_left t c)
     (λ c κs. omega (arith, room t c))
     (needs-a-group-requires t)
     (skip-requires t)
-    (λ c. c.before.before.rest-fits.ensures.1.long ∙ sym c.before.before.before.before.before.before.before.before.before.before.before.before.before.requires.1.0.remembered.long)
+    (λ c. c.rest_fits.ensures.1.long ∙ sym c.requires.1.0.remembered.long)
     (returns-2 t)
     (λ c.
-    let s = c.before.before.before.before.before.before.before.before.before.before in
+    let s = c in
     let a = s.args in
-    (omega arith, tried_none fits (2 ^ a.fixed.sets) (rows_of_entries a.entries.now) (before a.fixed.asked (all_terms a.ahead)) a.groups.terms a.groups.count (all_terms a.ahead) a.ahead.term, c.before.before.before.before.needs-a-group.ensures.1))
+    (omega arith, tried_none fits (2 ^ a.fixed.sets) (rows_of_entries a.entries.now) (before a.fixed.asked (all_terms a.ahead)) a.groups.terms a.groups.count (all_terms a.ahead) a.ahead.term, c.needs_a_group.ensures.1))
     (λ c. search rules)
-    (λ c. omega (arith, inside t c))
-    (λ c. omega (arith, inside t c))
-    (λ c κs. let l = c.before.before in ((start t l).requires.1.0.few_sets, (l.loop.invariant.2, small t c.before)))
-    (λ c κs. let turn = c.before.before.before.before.before in (inside t turn, room t (first t turn.before)))
+    (λ c. omega (arith, c.loop-k-test.true, c.requires.1.1.1))
+    (λ c. omega (arith, c.loop-k-test.true, c.requires.1.1.1))
+    (λ c κs. let l = c in ((start t l.before.before).requires.1.0.few_sets, (l.loop-k.invariant.2, small t c.before)))
+    (λ c κs. let turn = c in (inside t turn.before.before.before.before.before, room t (first t turn.before.before.before.before.before.before)))
     (in-group-requires t)
-    (λ c. c.before.before.before.rest-fits2.ensures.1.long ∙ sym (start t c.before.before.before.before.before.before.before.before.before.before.before.before).requires.1.0.remembered.long)
-    (λ c. ((λ r. absurd (true≢false r)), c.before.before.before.rest-fits2.ensures.1))
+    (λ c. c.rest_fits-then-has_mask.ensures.1.long ∙ sym (start t c.before.before.before.before.before.before.before.before.before.before.before.before).requires.1.0.remembered.long)
+    (λ c. ((λ r. absurd (true≢false r)), c.rest_fits-then-has_mask.ensures.1))
     (λ c. search rules)
     (λ c. search rules)
     (loop-again t)
-    (λ c. c.before.loop.invariant.2.long ∙ sym (start t c.before).requires.1.0.remembered.long)
+    (λ c. c.loop-k.invariant.2.long ∙ sym (start t c.before).requires.1.0.remembered.long)
     (returns-4 t)

@@ -37,8 +37,8 @@ each_has_mask_spec =
     decreases-loop
     (λ c. (omega arith, c.requires.1.0))
     (λ c. search rules)
-    (λ c. omega (arith, inside c))
-    (λ c. omega (arith, inside c))
+    (λ c. omega (arith, c.loop-k-test.true, c.requires.0.1))
+    (λ c. omega (arith, c.loop-k-test.true, c.requires.0.1))
     (λ c κs. let l = c in let s = l in (s.requires.0.0, (l.loop-k.invariant.1, s.requires.1.1.small l.loop-k.k c.loop-k-test.true)))
     (λ c. c.has_mask.ensures.1.long ∙ sym c.requires.1.0.long)
     returns
