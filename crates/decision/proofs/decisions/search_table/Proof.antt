@@ -26,9 +26,9 @@ came c =
     let told = w.write_rows.ensures in
     let long : length q.table ≡ 64 = search table_long in
     ⊎_elim
-    (λ x. (omega (arith, x.2), many_searched q _ (table_refused q _ _ (stated_few q long) (omega arith) (sym told.0 ∙ x.1.given.1))))
-    (λ x. let s = table_stands q _ _ _ told.1 (sym told.0 ∙ x.1.given.1) in
-    (omega (arith, x.3, s.0), rows_searched q _ (ap (λ n. take n w.write_rows.new.rows) x.3 ∙ s.1)))
+    (λ x. (omega (arith, x.count-is), many_searched q _ (table_refused q _ _ (stated_few q long) (omega arith) (sym told.0 ∙ x.in-Refused.is))))
+    (λ x. let s = table_stands q _ _ _ told.1 (sym told.0 ∙ x.in-Count.is) in
+    (omega (arith, x.count-is, s.0), rows_searched q _ (ap (λ n. take n w.write_rows.new.rows) x.count-is ∙ s.1)))
     c.match-write_rows.branch-raw
 
 returns : tie.Need-returns
