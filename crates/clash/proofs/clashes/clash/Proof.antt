@@ -20,8 +20,8 @@ returns c =
     let r = d.begin-begun.result.decision in
     let is = d.begin-begun.ensures.0 in
     ⊎_elim
-    (λ x. ap (with_kept r) (x.kept-is ∙ x.keep_none.ensures) ∙ sym (keeps_none q r is x.in-Possible.is))
-    (λ x. ap (with_kept r) (x.kept-is ∙ x.walk.ensures) ∙ sym (keeps_part q r is x.in-Impossible.is))
+    (λ x. ap (with_kept r) (x.kept-is ∙ x.keep_none-kept.ensures) ∙ sym (keeps_none q r is x.in-Possible.is))
+    (λ x. ap (with_kept r) (x.kept-is ∙ x.walk-kept.ensures) ∙ sym (keeps_part q r is x.in-Impossible.is))
     c.match-verdict.branch-raw
 
 pub clash_spec : {M : Type 1} → statement M

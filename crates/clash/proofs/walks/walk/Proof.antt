@@ -34,7 +34,7 @@ loop-again c = turn_keeps c.loop-i.invariant c.loop-i-test.true c.if-bound-i.tru
 
 -- what remains without a run is impossible exactly if the test says so
 tested : (c : tie.After-is_impossible invariant-loop decreases-loop) → let r = c in let l = r in
-    is_none (answer (dropped l.loop-i.part l.loop-i.auto r.run_length-n.result)) ≡ c.is_impossible.result
+    is_none (answer (dropped l.loop-i.part l.loop-i.kept r.run_length-n.result)) ≡ c.is_impossible.result
 tested c =
     let r = c in
     let e = r in
@@ -50,7 +50,7 @@ loop-again-2 c =
     let l = e in
     let n = r.run_length-n in
     let q = l.args.q in
-    subst (λ p. Turn q p l.loop-i.indexes l.loop-i.auto (l.loop-i.i + n.result) l.loop-i.bound (l.loop-i.left - 1)) (sym r.drop_statements-rest.ensures)
+    subst (λ p. Turn q p l.loop-i.indexes l.loop-i.kept (l.loop-i.i + n.result) l.loop-i.bound (l.loop-i.left - 1)) (sym r.drop_statements-rest.ensures)
     (turn_drops l.loop-i.invariant e.loop-i-test.true e.if-bound-i.false n.result n.ensures.0 n.ensures.1 n.ensures.2 (tested c.before ∙ c.if-is_impossible.true))
 
 -- or it can't be
