@@ -91,6 +91,10 @@ module _ (bytes : List ℕ) (e : (read_question bytes).outcome ≡ Accepted) whe
   text_of : (text : List ℕ) → text ≡ clause_text q → IsTextOf bytes text
   text_of text is = record { file_accepted = e; whole = is; lines = ap (pieces line_end) is ∙ text_lines q; meant = means; not_meant = means_not; decided = decides; not_decided = decides_not }
 
+-- the ways at an equal number and buffer
+written_as : (file old new : List ℕ) (n m : ℕ) (buf : List ℕ) → n ≡ m → new ≡ buf → Writes file old m buf → Writes file old n new
+written_as file old new n m buf p q w = rw (p, q) w
+
 -- a call of `sayfudhoum_clauses` on a file, with a buffer
 module _ (c : Call clauses-call.Learnt) where
   abbrev file : List ℕ
@@ -104,7 +108,7 @@ module _ (c : Call clauses-call.Learnt) where
 
   -- it ends in one of those ways
   pub clauses_ends : Writes file old c.result new
-  clauses_ends = rw (c.fits.0, c.fits.1) (writes file old)
+  clauses_ends = written_as file old new c.result _ _ c.fits.0 c.fits.1 (writes file old)
 
   -- a count of bytes exactly if the file is accepted and there is room for the text of its clauses
   pub clauses_written_exactly : ((n : ℕ) × (c.result ≡ n * 256)) ↔ (((read_question file).outcome ≡ Accepted) × (length (text_in file) ≤ length old))

@@ -91,6 +91,10 @@ module _ (bytes model : List ℕ) where
           subst (λ j. Judges (judgement_number j)) (sym (judge_accepted bytes model {read = read_question bytes} refl p)) (said (bytes_judged q model) p is (judging q is model))
       go (Refused r) p = subst (λ j. Judges (judgement_number j)) (sym (judge_refused bytes model {read = read_question bytes} refl p)) (file_refused r p refl)
 
+-- the ways at an equal number
+judged_as : (file handed : List ℕ) (n m : ℕ) → n ≡ m → Judges file handed m → Judges file handed n
+judged_as file handed n m p j = rw p j
+
 -- a call of `sayfudhoum_judge` on a file and a model
 module _ (c : Call judge-call.Learnt) where
   abbrev file : List ℕ
@@ -101,7 +105,7 @@ module _ (c : Call judge-call.Learnt) where
 
   -- it ends in one of those ways
   pub judge_ends : Judges file handed c.result
-  judge_ends = rw c.fits (judges file handed)
+  judge_ends = judged_as file handed c.result _ c.fits (judges file handed)
 
   -- 64 exactly if the file is accepted, the model is an assignment for its names, and every statement holds in it
   pub judge_holds_exactly : (c.result ≡ 64 * 256) ↔ Holds file handed
