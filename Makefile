@@ -5,7 +5,7 @@
 # make outside    gives clauses to cadical and minisat, and reads back what they print
 # make bench      times the library beside cvc5, minisat and cadical, and compares verdicts and cores
 # make install    header, archive, program and pkg-config file, below PREFIX (and that below DESTDIR)
-# make clean      removes what was built
+# make clean      removes what was built, but what rt keeps in crates/*/out
 ifeq ($(shell command -v rt 2>/dev/null),)
 $(error The Rattle kit is missing: its command rt is not on the PATH)
 endif
@@ -24,10 +24,14 @@ place = $(DESTDIR)$(abspath $(PREFIX))
 all: program library
 
 library:
-	rt staticlib sayfudhoum
+	cd crates/sayfudhoum_c && rt lib
+	@mkdir -p target/staticlib
+	cp crates/sayfudhoum_c/out/libsayfudhoum_c.a $(archive)
 
 program:
-	rt check decide
+	cd crates/decide && rt run </dev/null >/dev/null
+	@mkdir -p target/bin
+	cp crates/decide/out/decide $(program)
 
 shared = examples/model.c examples/statement.c
 example: library

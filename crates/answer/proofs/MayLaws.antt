@@ -41,7 +41,7 @@ below_tested bound (m ∷ ms) h = rw (lt-ltb m bound (h 0 (omega arith)), below_
 module _ (T bound : ℕ) where
   -- the two tests, and the two lengths
   pub arranged : (l ms : List ℕ) → is_arrangement l ≡ true → all_below bound ms ≡ true → length l ≡ T → length ms ≡ classes l → IsArranged T bound (with_masks l ms)
-  arranged l ms a b e k = record { arranged = follows 0 l a; each_term_lem = e; each_class = k; masks_below = λ i h. below bound ms b i (omega arith) }
+  arranged l ms a b e k = record { arranged = follows 0 l a; each_term = e; each_class = k; masks_below = λ i h. below bound ms b i (omega arith) }
 
   pub arrangement_tested : (sol : Solution) → IsArranged T bound sol → is_arrangement sol.arrangement ≡ true
   arrangement_tested sol w = follow_tested 0 sol.arrangement w.arranged
@@ -56,19 +56,19 @@ module _ (T bound : ℕ) where
 
   -- it has no more classes than terms,
   pub may_few : (sol : Solution) → IsArranged T bound sol → classes sol.arrangement ≤ T
-  may_few sol w = omega (arith, classes_few sol.arrangement (arrangement_tested sol w), w.each_term_lem)
+  may_few sol w = omega (arith, classes_few sol.arrangement (arrangement_tested sol w), w.each_term)
 
   -- and its value says it
   pub as_said : (s : Option Solution) → MaySay T bound s → said T (as_answer s) ≡ s
   unfolding said
   as_said none w = refl
   as_said (some sol) w =
-      let l : take T (padded max_terms sol.arrangement) ≡ sol.arrangement = take_padded max_terms sol.arrangement T w.each_term_lem in
+      let l : take T (padded max_terms sol.arrangement) ≡ sol.arrangement = take_padded max_terms sol.arrangement T w.each_term in
       ap (λ x. some (with_masks x (take (classes x) (padded max_terms sol.masks)))) l ∙ ap (λ ms. some (with_masks sol.arrangement ms)) (take_padded max_terms sol.masks (classes sol.arrangement) w.each_class)
 
   pub as_twelve : (s : Option Solution) → T ≤ max_terms → MaySay T bound s → HasTwelve (as_answer s)
   as_twelve none few w = (padded_length max_terms [] (omega arith), padded_length max_terms [] (omega arith))
-  as_twelve (some sol) few w = (padded_length max_terms sol.arrangement (omega (arith, w.each_term_lem)), padded_length max_terms sol.masks (omega (arith, w.each_class, may_few sol w)))
+  as_twelve (some sol) few w = (padded_length max_terms sol.arrangement (omega (arith, w.each_term)), padded_length max_terms sol.masks (omega (arith, w.each_class, may_few sol w)))
 
   -- a good answer says what may be said
   pub good_may : (a : Answer) → T ≤ max_terms → HasTwelve a → is_good bound (said T a) ≡ true → MaySay T bound (said T a)

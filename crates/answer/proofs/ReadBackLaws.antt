@@ -74,14 +74,14 @@ module _ (T bound : ℕ) (sol : Solution) (w : IsArranged T bound sol) (small : 
   body_size = omega (arith, body_length mask_bytes ms, w.each_class)
 
   file_length : length file ≡ last + head_length
-  file_length = simp length-append (omega (arith, w.each_term_lem, body_size))
+  file_length = simp length-append (omega (arith, w.each_term, body_size))
 
   -- what stands at each place
   numbers_there : take T (drop (first + head_length) file) ≡ l
-  numbers_there = take_at l (masks_bytes ms ++ end_bytes) T w.each_term_lem
+  numbers_there = take_at l (masks_bytes ms ++ end_bytes) T w.each_term
 
   middle_there : drop middle file ≡ masks_bytes ms ++ end_bytes
-  middle_there = sym (drop-drop T (first + head_length) file) ∙ drop_at l (masks_bytes ms ++ end_bytes) T w.each_term_lem
+  middle_there = sym (drop-drop T (first + head_length) file) ∙ drop_at l (masks_bytes ms ++ end_bytes) T w.each_term
 
   body_there : drop (middle + head_length) file ≡ masks_body mask_bytes ms ++ end_bytes
   body_there = sym (drop-drop head_length middle file) ∙ ap (drop head_length) middle_there
@@ -97,7 +97,7 @@ module _ (T bound : ℕ) (sol : Solution) (w : IsArranged T bound sol) (small : 
 
   -- the frames
   frame_numbers : due_frame 0x41 T (drop first file) ≡ Sound 0x41 T
-  frame_numbers = due_sound AnswerFile 0x41 T l (masks_bytes ms ++ end_bytes) (rw w.each_term_lem (numbers_sized T)) ∙ ap (Sound 0x41) w.each_term_lem
+  frame_numbers = due_sound AnswerFile 0x41 T l (masks_bytes ms ++ end_bytes) (rw w.each_term (numbers_sized T)) ∙ ap (Sound 0x41) w.each_term
 
   frame_masks : due_frame 0x42 (n * mask_bytes) (drop middle file) ≡ Sound 0x42 (n * mask_bytes)
   frame_masks =

@@ -49,7 +49,7 @@ HasTwelve a = (length a.arrangement ≡ max_terms) × (length a.masks ≡ max_te
 -- an arrangement of T terms, and a mask below the bound for each class
 pub record IsArranged (T bound : ℕ) (sol : Solution) : Type 0 where
   pub arranged : IsArrangement sol.arrangement
-  pub each_term_lem : length sol.arrangement ≡ T
+  pub each_term : length sol.arrangement ≡ T
   pub each_class : length sol.masks ≡ classes sol.arrangement
   pub masks_below : (k : ℕ) → k < classes sol.arrangement → mask_of sol.masks k < bound
 

@@ -8,7 +8,7 @@ use Rattle.theory.specs.Searches.{first_from, first_placing, each_from, first_pa
 use Rattle.theory.specs.FirstModels.{smallest_mask, model_of, first_model}
 use Rattle.theory.specs.Reduction.{row_list}
 use Rattle.theory.specs.Answers.{answer}
-use Rattle.theory.specs.Cases.{Case, cases}
+use Rattle.theory.specs.Cases.{cases}
 use Rattle.clash.specs.Clashes.{kept_from, clashing}
 
 -- the indexes of each, A first: in C, D, J and M every statement is needed, and K has only one; the others are possible

@@ -15,13 +15,13 @@ use Rattle.question.specs.declared.questions.Question.{Question}
 use Rattle.question.specs.Limits.{max_terms}
 use Rattle.question.specs.Questions.{idle, question_of, statements}
 use Rattle.question.specs.Checks.{checked, IsAccepted}
-use Rattle.question.specs.Builds.{declaring, without, dropped}
+use Rattle.question.specs.Builds.{declaring, dropped}
 use Rattle.question.proofs.AcceptedLaws.{accepted}
 use Rattle.question.proofs.BuildLaws.{declaring_of, statements_of, terms_of_lem}
 use Rattle.question.proofs.DroppedLaws.{accepted_dropped}
 use Rattle.question_file.specs.Bytes.{file_bytes, question_bytes}
 use Rattle.question_file.specs.Reads.{read_question}
-use Rattle.question_file.proofs.RoundTrips.{back, read_back}
+use Rattle.question_file.proofs.RoundTrips.{read_back}
 use Rattle.theory.specs.Answers.{answer}
 use Rattle.theory.proofs.AnswerLaws.{answer_same}
 use Rattle.clash.specs.Clashes.{is_none, impossible, kept_from, clashing, Rising, statements_at, part_of}

@@ -1,12 +1,12 @@
 -- The walk of the code, turn by turn: how far it has come, and that what it has kept and what is still ahead make up the clashing part.
-use Prim.Native.Nat.{ℕ, suc, ◌+◌, ◌-◌, ◌≤◌, ◌<◌}
+use Prim.Native.Nat.{ℕ, ◌+◌, ◌≤◌, ◌<◌}
 use mathlib.Core.Path.{◌≡◌, refl, sym, ap, ap₂, subst, ◌∙◌}
 use mathlib.Core.Bool.{true, false, cond}
 use mathlib.Core.List.{List, [], ◌∷◌, ◌++◌, map-append, append_assoc, append-nil}
 use native.Mathlib.Omega.{arith}
 use native.Mathlib.Nat.{zero-add}
 use native.Mathlib.Numerals.{add-one}
-use lib.ListN.{length, get_or, drop, replicate, set, length-append, length-map, drop_of_length-le}
+use lib.ListN.{length, get_or, drop, set, length-append, length-map, drop_of_length-le}
 use lib.Seq.{drop-cons, drop-drop}
 use Rattle.outcome.specs.Padded.{padded}
 use Rattle.outcome.proofs.PaddedLaws.{padded_snoc}

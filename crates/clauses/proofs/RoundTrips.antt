@@ -138,7 +138,7 @@ module _ (terms sets : ℕ) (truth : Truth) (sol : Solution) (is : IsPlaced (2 ^
 module _ (q : Question) where
   -- from a solution to truth values and back
   pub solution_again : (sol : Solution) → Solves q sol → model_from q (truth_from q sol) ≡ sol
-  solution_again sol s = said_one (terms_of q) q.sets (truth_from q sol) sol (record { arranged = s.arranged; long = s.each_term_lem; each_class = s.each_class; masks_below = s.masks_below }) (truth_says (terms_of q) q.sets sol)
+  solution_again sol s = said_one (terms_of q) q.sets (truth_from q sol) sol (record { arranged = s.arranged; long = s.each_term; each_class = s.each_class; masks_below = s.masks_below }) (truth_says (terms_of q) q.sets sol)
 
   -- from truth values that satisfy the clauses to a model and back: the same values, but for the spare, which no clause that can be true looks at
   module _ (accepted : IsAccepted q) (truth : Truth) (h : Satisfies truth (clauses_of q)) where

@@ -61,7 +61,7 @@ module _ (q : Question) (accepted : IsAccepted q) where
       let is : IsPlaced _ _ (model_from q truth) = model_placed (terms_of q) q.sets truth in
       record {
         arranged = is.arranged;
-        each_term_lem = is.long;
+        each_term = is.long;
         each_class = is.each_class;
         masks_below = is.masks_below;
         rows_met = satisfied_met (terms_of q) q.sets truth (model_from q truth) (satisfied_says truth h) (row_list q) (each_declared q accepted) h;

@@ -34,7 +34,7 @@ module _ (q : Question) (e : checked q ≡ Accepted) where
       go none p = tt
       go (some sol) p =
           let s = answer_solution q ((accepted q).0 e) sol p in
-          record { arranged = s.arranged; each_term_lem = s.each_term_lem; each_class = s.each_class; masks_below = s.masks_below }
+          record { arranged = s.arranged; each_term = s.each_term; each_class = s.each_class; masks_below = s.masks_below }
 
   -- its file
   pub file_short : length (file_of (answer q)) ≤ longest_answer
@@ -42,7 +42,7 @@ module _ (q : Question) (e : checked q ≡ Accepted) where
     where
       go : (o : Option Solution) → MaySay (terms_of q) (mask_bound q) o → length (file_of o) ≤ longest_answer
       go none w = omega (arith, none_length)
-      go (some sol) w = omega (arith, some_length sol, w.each_term_lem, w.each_class, may_few (terms_of q) (mask_bound q) sol w, ((accepted q).0 e).few_terms)
+      go (some sol) w = omega (arith, some_length sol, w.each_term, w.each_class, may_few (terms_of q) (mask_bound q) sol w, ((accepted q).0 e).few_terms)
 
   says : said (terms_of q) (as_answer (answer q)) ≡ answer q
   says = as_said (terms_of q) (mask_bound q) (answer q) answer_may

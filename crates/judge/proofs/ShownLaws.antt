@@ -1,6 +1,6 @@
 -- A solution of an accepted question, as a model for the judge: it agrees with the solution on every name declared, so the judge says yes to it.
-use Prim.Native.Nat.{ℕ, ◌^◌, ◌≤◌, ◌<◌}
-use mathlib.Core.Path.{◌≡◌, refl, sym, ap, fun_ext, ◌∙◌}
+use Prim.Native.Nat.{ℕ, ◌^◌, ◌≤◌}
+use mathlib.Core.Path.{◌≡◌, refl, sym, ap, fun_ext}
 use mathlib.Core.Bool.{true}
 use native.Mathlib.Omega.{arith}
 use borrow.Author.Tests.{le-leb}
@@ -42,7 +42,7 @@ module _ (q : Question) (accepted : IsAccepted q) (sol : Solution) (s : Solves q
   size_shown = refl
 
   few : (model_shown sol).size ≤ max_terms
-  few = omega (arith, size_shown, classes_few 0 sol.arrangement s.arranged, s.each_term_lem, accepted.few_terms)
+  few = omega (arith, size_shown, classes_few 0 sol.arrangement s.arranged, s.each_term, accepted.few_terms)
 
   elements : T (elements_inside q.elements (model_shown sol).size (model_shown sol).elements)
   unfolding elements_inside

@@ -1,9 +1,8 @@
 -- The reader of a solver's lines: a walk over lines, each of which ends with 0A.
-use Rattle.std.specs.Prelude.{ℕ, suc, ◌+◌, Bool, true, false, cond, List, [], ◌∷◌, length}
+use Rattle.std.specs.Prelude.{ℕ, suc, ◌+◌, List, [], ◌∷◌, length}
 use Rattle.outcome.specs.declared.checks.Check.TheVariants.{Accepted, Refused}
 use Rattle.outcome.specs.Refusals.{refusal, bad_lines}
 use Rattle.text.specs.Pieces.{line_end, pieces}
-use Rattle.lines.specs.declared.readings.Stage.{Stage}
 use Rattle.lines.specs.declared.readings.Stage.TheVariants.{Start, Values, Valued, Refuted, Fault}
 use Rattle.lines.specs.declared.readings.Reading.{Reading}
 use Rattle.lines.specs.declared.readings.LinesRead.{LinesRead}

@@ -5,7 +5,6 @@ use Rattle.text.specs.declared.literals.Word.{Word}
 use Rattle.text.specs.declared.literals.Word.TheVariants.{Says, NotOne}
 use Rattle.text.specs.Literals.{word_read}
 use Rattle.text.specs.Pieces.{space, pieces}
-use Rattle.lines.specs.declared.readings.Value.{Value}
 use Rattle.lines.specs.declared.readings.Stage.{Stage}
 use Rattle.lines.specs.declared.readings.Stage.TheVariants.{Start, Values, Valued, Refuted, Fault}
 use Rattle.lines.specs.declared.readings.Reading.{Reading}

@@ -3,7 +3,6 @@ use Prim.Native.Nat.{ℕ, ◌+◌, ◌*◌, ◌/◌, ◌^◌, ◌≤◌, ◌<◌
 use mathlib.Core.Path.{◌≡◌, refl, sym, ap, ap₂, fun_ext, ◌∙◌}
 use mathlib.Core.Bool.{Bool, true, ◌&&◌}
 use mathlib.Core.List.{List}
-use mathlib.Core.Logic.{◌↔◌}
 use native.Mathlib.Omega.{arith}
 use native.Mathlib.Decide.{dec_lt}
 use borrow.Author.Tests.{le-leb, leb-true}
@@ -18,7 +17,7 @@ use Rattle.question.specs.Masks.{bit}
 use Rattle.statement.specs.Meaning.{Assignment, IsAssignment, everywhere}
 use Rattle.statement.proofs.TestLaws.{true_T, T_true, both_true}
 use Rattle.statement.proofs.EverywhereLaws.{everywhere_at, everywhere_of}
-use Rattle.body.specs.Bodies.{mask_bytes, masks_in, masks_of}
+use Rattle.body.specs.Bodies.{mask_bytes, masks_in}
 use Rattle.body.proofs.BodyLaws.{numbers_part, in_at, in_length}
 use Rattle.judge.specs.Models.{assigned, elements_inside, masks_inside, is_model}
 use Rattle.judge.proofs.Verdicts.{model_assigns}

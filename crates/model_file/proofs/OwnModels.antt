@@ -1,15 +1,14 @@
 -- The model of a solution, as bytes: its number of classes, the class numbers of the element names, and its masks. It is what an answer has in fields 41 and 42, and the judge says yes to it.
-use Prim.Native.Nat.{ℕ, ◌+◌, ◌^◌, ◌≤◌, ◌<◌}
-use mathlib.Core.Path.{◌≡◌, refl, sym, ap, ap₂, fun_ext, subst, ◌∙◌}
+use Prim.Native.Nat.{ℕ, ◌^◌, ◌≤◌, ◌<◌}
+use mathlib.Core.Path.{◌≡◌, refl, sym, ap, ap₂, fun_ext, ◌∙◌}
 use mathlib.Core.Bool.{Bool, true, ◌&&◌}
-use mathlib.Core.List.{List, ◌∷◌, ◌++◌}
+use mathlib.Core.List.{◌∷◌, ◌++◌}
 use native.Mathlib.Omega.{arith}
 use borrow.Author.Tests.{le-leb, leb-true}
 use lib.Dec.{T, leb, ltb, ltb→lt, lt→ltb}
 use lib.ListN.{length, get_or, take}
-use lib.Seq.{length-take-le, get_or-take, take-append-le}
+use lib.Seq.{get_or-take, take-append-le}
 use Rattle.outcome.specs.Padded.{padded}
-use Rattle.outcome.specs.declared.checks.Check.TheVariants.{Accepted}
 use Rattle.outcome.proofs.PaddedLaws.{padded_entry, padded_length, take_padded}
 use Rattle.question.specs.declared.questions.Question.{Question}
 use Rattle.question.specs.Limits.{max_terms}
@@ -47,11 +46,11 @@ module _ (q : Question) (is : IsAccepted q) (sol : Solution) (s : Solves q sol) 
 
   -- there are at least as many terms as names, and at most twelve
   terms_few : length sol.arrangement ≤ max_terms
-  terms_few = omega (arith, s.each_term_lem, is.few_terms)
+  terms_few = omega (arith, s.each_term, is.few_terms)
 
   names_few : E ≤ length sol.arrangement
   unfolding terms_of
-  names_few = omega (arith, s.each_term_lem)
+  names_few = omega (arith, s.each_term)
 
   masks_few : length sol.masks ≤ max_terms
   masks_few = omega (arith, s.each_class, classes_few 0 sol.arrangement s.arranged, terms_few)

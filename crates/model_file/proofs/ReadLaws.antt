@@ -1,16 +1,14 @@
 -- The reader of models, by whether the bytes have the length of their n.
 use Prim.Native.Nat.{ℕ, ◌+◌, ◌≤◌}
-use mathlib.Core.Path.{◌≡◌, ap, ap₂, ◌∙◌}
-use mathlib.Core.Bool.{true, false, cond}
+use mathlib.Core.Path.{◌≡◌, ap₂, ◌∙◌}
+use mathlib.Core.Bool.{true, false}
 use mathlib.Core.List.{List}
-use native.Mathlib.Omega.{arith}
 use borrow.Author.Tests.{eqb-true}
-use lib.ListN.{length, take, drop, length-drop}
+use lib.ListN.{length, take, drop}
 use lib.Seq.{take_all}
 use Rattle.outcome.specs.declared.checks.Check.TheVariants.{Accepted}
 use Rattle.body.specs.Bodies.{numbers_of, masks_of}
 use Rattle.judge.specs.declared.models.Model.{Model}
-use Rattle.model_file.specs.declared.reads.ReadModel.{ReadModel}
 use Rattle.model_file.specs.Bytes.{model_length}
 use Rattle.model_file.specs.Reads.{size_in, has_its_length, model_in, no_model, model_read}
 

@@ -6,8 +6,8 @@ use mathlib.Core.List.{List, [], ◌∷◌, ◌++◌, append-nil}
 use native.Mathlib.Omega.{arith}
 use native.Mathlib.Nat.{pow-le-pow_right}
 use borrow.Author.Tests.{eq-eqb, leb-true}
-use lib.Dec.{T, leb, ltb, ltb→lt}
-use lib.ListN.{length, get_or, take, drop, length-append, length-take, length-drop, take-append-drop}
+use lib.Dec.{leb, ltb, ltb→lt}
+use lib.ListN.{length, get_or, take, drop, length-append, length-drop, take-append-drop}
 use lib.Seq.{length-take-le, get_or-take, drop-drop, drop-cons, take_all, take_at, drop_at}
 use Rattle.outcome.specs.Padded.{padded}
 use Rattle.outcome.specs.declared.checks.Check.TheVariants.{Accepted}

@@ -9,7 +9,6 @@ use borrow.Author.Tests.{eq-eqb}
 use lib.ListN.{length}
 use Rattle.outcome.specs.declared.refusals.Refusal.{Refusal}
 use Rattle.outcome.specs.Refusals.{refusal, bad_model}
-use Rattle.outcome.specs.Checks.{accepted_then}
 use Rattle.outcome.proofs.Never.{never}
 use Rattle.question.specs.declared.questions.Question.{Question}
 use Rattle.question.specs.Limits.{max_statements, max_terms}
@@ -25,7 +24,7 @@ use Rattle.judge.specs.Models.{assigned, is_model}
 use Rattle.judge.specs.Judgements.{first_failing, model_judged, judged}
 use Rattle.judge.proofs.Verdicts.{FirstToFail, no_refusal, yes_means, no_means}
 use Rattle.model_file.specs.Bytes.{model_length}
-use Rattle.model_file.specs.Reads.{size_in, has_its_length, model_in, no_model, model_read}
+use Rattle.model_file.specs.Reads.{size_in, has_its_length, model_in, no_model}
 use Rattle.model_file.specs.Meaning.{assignment_in, IsGoodModel}
 use Rattle.model_file.specs.Judges.{bytes_judged}
 use Rattle.model_file.proofs.ReadLaws.{its_length, read_said, read_bad}
@@ -34,7 +33,7 @@ use Rattle.model_file.proofs.MeaningLaws.{same_assignment, good_passes, passing_
 
 -- the ways in which the bytes of a model are judged
 pub data Judging (q : Question) (bytes : List ℕ) : Judgement → Type 0 where
-  bad_model_lem : (IsGoodModel q.elements q.sets bytes → ⊥) → Judging q bytes (Refused (refusal bad_model 0))
+  model_bad : (IsGoodModel q.elements q.sets bytes → ⊥) → Judging q bytes (Refused (refusal bad_model 0))
   fails_at : (i : ℕ) → IsGoodModel q.elements q.sets bytes → FirstToFail (assignment_in q.elements bytes) (statements q) i → Judging q bytes (No i)
   all_hold : IsGoodModel q.elements q.sets bytes → AllHold (assignment_in q.elements bytes) (statements q) → Judging q bytes Yes
 
@@ -62,7 +61,7 @@ module _ (q : Question) (is : IsAccepted q) (bytes : List ℕ) where
   module _ (whole : length bytes ≡ model_length E (size_in bytes)) where
     bad : is_model E q.sets m ≡ false → Judging q bytes (model_judged q m)
     unfolding model_judged
-    bad p = rw p (bad_model_lem (λ g. let both = sym p ∙ good_passes E q.sets bytes names g in never cc))
+    bad p = rw p (model_bad (λ g. let both = sym p ∙ good_passes E q.sets bytes names g in never cc))
 
     -- what passes the test is not refused
     not_refused : is_model E q.sets m ≡ true → (r : Refusal) → model_judged q m ≡ Refused r → ⊥
@@ -94,7 +93,7 @@ module _ (q : Question) (is : IsAccepted q) (bytes : List ℕ) where
       go : (b : Bool) → has_its_length E bytes ≡ b → Judging q bytes (bytes_judged q bytes)
       go false h =
           subst (Judging q bytes) (sym (bytes_refused q bytes {read = no_model} (sym (read_bad E bytes h)) refl))
-          (bad_model_lem (λ g. let both = sym h ∙ good_length g in never cc))
+          (model_bad (λ g. let both = sym h ∙ good_length g in never cc))
       go true h = subst (Judging q bytes) (sym (bytes_said q bytes (sym (read_said E bytes h)) refl)) (tested (its_length E bytes h) (is_model E q.sets m) refl)
 
 -- the first statement that fails has an index below 64

@@ -1,14 +1,13 @@
 -- A question without some of its statements is accepted where the question is.
 use Prim.Native.Nat.{ℕ, zero, suc, ◌+◌, ◌≤◌}
-use mathlib.Core.Path.{◌≡◌, refl, sym, ap, ap₂, subst, ◌∙◌}
+use mathlib.Core.Path.{◌≡◌, sym, ap, subst, ◌∙◌}
 use mathlib.Core.List.{List, [], ◌∷◌, ◌++◌}
 use native.Mathlib.Omega.{arith}
-use lib.ListN.{length, take, drop, take-append-drop}
+use lib.ListN.{take, drop, take-append-drop}
 use lib.Seq.{drop-drop}
 use Rattle.statement.specs.declared.statements.Statement.{Statement}
-use Rattle.statement.specs.Statements.{witness, witnesses}
+use Rattle.statement.specs.Statements.{witnesses}
 use Rattle.question.specs.declared.questions.Question.{Question}
-use Rattle.question.specs.Limits.{max_statements, max_terms}
 use Rattle.question.specs.Questions.{statements, terms_of}
 use Rattle.question.specs.Checks.{AllDeclared, IsAccepted}
 use Rattle.question.specs.Builds.{without, dropped}

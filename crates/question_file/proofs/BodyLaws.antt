@@ -1,5 +1,5 @@
 -- The table of tags beside the table of statements, by the table's rule: a statement's field is listed with as many bytes as it has names, and each tag that a question file knows is 01, 7F or a statement's.
-use Prim.Native.Nat.{ℕ, ◌+◌, ◌≤◌}
+use Prim.Native.Nat.{ℕ, ◌≤◌}
 use mathlib.Core.Path.{◌≡◌, refl}
 use mathlib.Core.Bool.{true, false}
 use mathlib.Core.List.{List, [], ◌∷◌, ◌++◌}

@@ -10,7 +10,6 @@ use lib.Dec.{ltb}
 use lib.ListN.{length, take}
 use lib.Seq.{take-append_seam}
 use Rattle.outcome.specs.declared.refusals.Refusal.{Refusal}
-use Rattle.outcome.specs.declared.checks.Check.{Check}
 use Rattle.outcome.specs.declared.checks.Check.TheVariants.{Accepted, Refused}
 use Rattle.outcome.specs.declared.writes.Written.TheVariants.{Count, Refused as NotWritten}
 use Rattle.outcome.specs.Refusals.{refusal, too_many_names, buffer_too_short}

@@ -1,7 +1,7 @@
 -- The clash for C, on the contract of `sayfudhoum_clash`: the ways in which a call ends, for all bytes, and what a caller may conclude from the number and the three buffers.
 use Prim.Native.Nat.{ℕ, ◌+◌, ◌*◌, ◌/◌, ◌^◌, ◌≤◌, ◌<◌}
 use mathlib.Core.Path.{◌≡◌, refl, sym, ap, subst, ◌∙◌}
-use mathlib.Core.Bool.{Bool, true, false, ◌||◌}
+use mathlib.Core.Bool.{Bool, true, false}
 use mathlib.Core.List.{List, [], ◌∷◌}
 use mathlib.Core.Logic.{◌↔◌}
 use mathlib.Core.Option.{Option, none, some}
@@ -33,7 +33,7 @@ use Rattle.clash.specs.declared.files.ClashWritten.TheVariants.{Refused as NotWr
 use Rattle.clash.specs.Clashes.{clashing, Rising, statements_at, part_of}
 use Rattle.clash.specs.Parts.{IsClash}
 use Rattle.clash.specs.Files.{Three, three, any_short, three_written, three_over, clash_bytes, clash_written, clash_over}
-use Rattle.clash.proofs.PartLaws.{clash_is, clash_some, possible_none, possible_part, part_accepted, part_stated, part_count, indexes_rise, part_back, part_whole}
+use Rattle.clash.proofs.PartLaws.{clash_is, clash_some, possible_none, possible_part, part_stated, indexes_rise, part_back, part_whole}
 use Rattle.clash.proofs.ThreeLaws.{three_same, three_short, three_fit}
 use Rattle.sayfudhoum.specs.Files.{answer_in}
 use Rattle.sayfudhoum.specs.Numbers.{counts_number, clashed_number, clash_number}

@@ -53,7 +53,7 @@ use Rattle.judge.specs.declared.judging.Judgement.{Judgement}
 use Rattle.judge.specs.declared.judging.Judgement.TheVariants.{Yes, No, Refused as NotJudged}
 use Rattle.model_file.specs.Judges.{bytes_judged, file_judged}
 use Rattle.model_file.proofs.JudgeLaws.{file_refused as judge_refused, file_accepted as judge_accepted}
-use Rattle.model_file.proofs.Verdicts.{Judging, bad_model_lem, fails_at, all_hold, judging, index_below}
+use Rattle.model_file.proofs.Verdicts.{Judging, model_bad, fails_at, all_hold, judging, index_below}
 use Rattle.decision.proofs.AnsweredLaws.{file_short}
 
 -- what was read of some bytes
@@ -186,7 +186,7 @@ module _ (bytes : List ℕ) where
       q = (read_question bytes).question
 
       indexed : (j : Judgement) → IsAccepted q → Judging q model j → IsIndexed j
-      indexed (NotJudged r) is (bad_model_lem g) = omega arith
+      indexed (NotJudged r) is (model_bad g) = omega arith
       indexed (No i) is (fails_at _ g f) = index_below q is model i f
       indexed Yes is (all_hold g h) = tt
 

@@ -28,7 +28,7 @@ use Rattle.model_file.specs.Judges.{bytes_judged, file_judged}
 use Rattle.model_file.proofs.JudgeLaws.{file_refused as judge_refused, file_accepted as judge_accepted}
 use Rattle.model_file.proofs.MeaningLaws.{good_assigns}
 use Rattle.model_file.proofs.OwnModels.{own_bytes, own_judged}
-use Rattle.model_file.proofs.Verdicts.{Judging, bad_model_lem as judged_bad, fails_at as judged_fails, all_hold as judged_holds, judging, index_below}
+use Rattle.model_file.proofs.Verdicts.{Judging, model_bad as judged_bad, fails_at as judged_fails, all_hold as judged_holds, judging, index_below}
 use Rattle.sayfudhoum.specs.Numbers.{judgement_number, judge_number}
 use Rattle.sayfudhoum.proofs.EndToEnd.{IsPossible, IsShown, question_accepted, some_first, refused_accepted}
 use Rattle.sayfudhoum.proofs.Exactness.{Tells, tells_one, file_tells}
@@ -69,7 +69,7 @@ module _ (bytes model : List ℕ) where
   -- the ways in which `sayfudhoum_judge` ends: the number that it gives back
   pub data Judges (number : ℕ) : Type 0 where
     file_refused : (r : Refusal) → (read_question bytes).outcome ≡ Refused r → number ≡ r.place * 256 + r.number → Judges number
-    bad_model_lem : IsBad → number ≡ 11 → Judges number
+    model_bad : IsBad → number ≡ 11 → Judges number
     fails_at : (i : ℕ) → FailsAt i → i < 64 → number ≡ i * 256 → Judges number
     all_hold : Holds → number ≡ 64 * 256 → Judges number
 
@@ -78,7 +78,7 @@ module _ (bytes model : List ℕ) where
   judges = go (read_question bytes).outcome refl
     where
       said : (j : Judgement) → (read_question bytes).outcome ≡ Accepted → IsAccepted q → Judging q model j → Judges (judgement_number j)
-      said _ p is (judged_bad b) = bad_model_lem (record { file_accepted = p; not_good = b }) refl
+      said _ p is (judged_bad b) = model_bad (record { file_accepted = p; not_good = b }) refl
       said _ p is (judged_fails i g f) =
           fails_at i (record { file_accepted = p; good = g; assignment = good_assigns q.elements q.sets model (omega (arith, is.few_elements)) g; first = f })
           (index_below q is model i f) refl
@@ -113,13 +113,13 @@ module _ (c : Call judge-call.Learnt) where
     where
       said : c.result ≡ 64 * 256 → Judges file handed c.result → Holds file handed
       said e (file_refused r p n) = let t = (refusal_told file r p).0 in absurd (omega (arith, e, n, t.0, t.1))
-      said e (bad_model_lem b n) = absurd (omega (arith, e, n))
+      said e (model_bad b n) = absurd (omega (arith, e, n))
       said e (fails_at i f l n) = absurd (omega (arith, e, n, l))
       said e (all_hold h n) = h
 
       gives : Holds file handed → Judges file handed c.result → c.result ≡ 64 * 256
       gives h (file_refused r p n) = refused_accepted p h.file_accepted
-      gives h (bad_model_lem b n) = absurd (b.not_good h.good)
+      gives h (model_bad b n) = absurd (b.not_good h.good)
       gives h (fails_at i f l n) = absurd (not_all _ _ i f.first h.holding)
       gives h (all_hold _ n) = n
 
@@ -129,13 +129,13 @@ module _ (c : Call judge-call.Learnt) where
     where
       said : i < 64 → c.result ≡ i * 256 → Judges file handed c.result → FailsAt file handed i
       said l e (file_refused r p n) = let t = (refusal_told file r p).0 in absurd (omega (arith, e, n, t.0, t.1))
-      said l e (bad_model_lem b n) = absurd (omega (arith, e, n))
+      said l e (model_bad b n) = absurd (omega (arith, e, n))
       said l e (fails_at k f _ n) = let same : k ≡ i = omega (arith, e, n) in subst (FailsAt file handed) same f
       said l e (all_hold h n) = absurd (omega (arith, e, n, l))
 
       gives : FailsAt file handed i → Judges file handed c.result → (i < 64) × (c.result ≡ i * 256)
       gives f (file_refused r p n) = refused_accepted p f.file_accepted
-      gives f (bad_model_lem b n) = absurd (b.not_good f.good)
+      gives f (model_bad b n) = absurd (b.not_good f.good)
       gives f (fails_at k g l n) = let same : k ≡ i = first_one _ _ k i g.first f.first in (omega (arith, l, same), omega (arith, n, same))
       gives f (all_hold h n) = absurd (not_all _ _ i f.first h.holding)
 
@@ -145,13 +145,13 @@ module _ (c : Call judge-call.Learnt) where
     where
       said : c.result ≡ 11 → Judges file handed c.result → IsBad file handed
       said e (file_refused r p n) = let t = (refusal_told file r p).0 in absurd (omega (arith, e, n, t.0, t.1))
-      said e (bad_model_lem b n) = b
+      said e (model_bad b n) = b
       said e (fails_at i f l n) = absurd (omega (arith, e, n))
       said e (all_hold h n) = absurd (omega (arith, e, n))
 
       gives : IsBad file handed → Judges file handed c.result → c.result ≡ 11
       gives b (file_refused r p n) = refused_accepted p b.file_accepted
-      gives b (bad_model_lem _ n) = n
+      gives b (model_bad _ n) = n
       gives b (fails_at i f l n) = absurd (b.not_good f.good)
       gives b (all_hold h n) = absurd (b.not_good h.good)
 
@@ -161,13 +161,13 @@ module _ (c : Call judge-call.Learnt) where
     where
       told : Tells c.result r → r.number < 10 → Judges file handed c.result → (read_question file).outcome ≡ Refused r
       told t small (file_refused s p n) = p ∙ ap Refused (tells_one c.result s r (file_tells file s c.result p n).0 t)
-      told t small (bad_model_lem b n) = absurd (omega (arith, t.0, t.1, small, n))
+      told t small (model_bad b n) = absurd (omega (arith, t.0, t.1, small, n))
       told t small (fails_at i f l n) = absurd (omega (arith, t.0, t.1, t.2, n))
       told t small (all_hold h n) = absurd (omega (arith, t.0, t.1, t.2, n))
 
       gives : (read_question file).outcome ≡ Refused r → Judges file handed c.result → Tells c.result r × (r.number < 10)
       gives p (file_refused s x n) = let same : s ≡ r = cc in rw same at (file_tells file s c.result x n)
-      gives p (bad_model_lem b n) = refused_accepted p b.file_accepted
+      gives p (model_bad b n) = refused_accepted p b.file_accepted
       gives p (fails_at i f l n) = refused_accepted p f.file_accepted
       gives p (all_hold h n) = refused_accepted p h.file_accepted
 

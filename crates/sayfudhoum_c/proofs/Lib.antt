@@ -1,2 +1,3 @@
--- The exports for C, and the library's calls that the theorems speak of.
+-- What the exports leave, and the library's calls that the theorems speak of.
 pub mod Boundary
+mod OneOutcomeLaws

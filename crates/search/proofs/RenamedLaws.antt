@@ -94,10 +94,10 @@ module _ (terms sets : ℕ) (rows : List ℕ) (declared : T (all_rows (row_decla
       found_placing =
           subst (λ n. Placing found.arrangement terms n) (sym model.3)
           (subst (λ l. Placing l terms (classes model.0.arrangement)) (sym model.2)
-          (placing_whole model.0.arrangement terms few solved.each_term_lem (omega (arith, classes_few 0 model.0.arrangement solved.arranged))))
+          (placing_whole model.0.arrangement terms few solved.each_term (omega (arith, classes_few 0 model.0.arrangement solved.arranged))))
 
       -- the model of the same arrangement is the first one
       pub answer_some : (r : SearchAnswer) → r ≡ answer_of (model_of fits (2 ^ sets) said (take terms found.arrangement)) → r ≡ answer_of (first_model fits terms (2 ^ sets) said)
       answer_some r e = e ∙ ap (λ l. answer_of (model_of fits (2 ^ sets) said (take terms l))) model.2
-          ∙ ap (λ l. answer_of (model_of fits (2 ^ sets) said l)) (take_at model.0.arrangement (replicate (max_terms - length model.0.arrangement) 0) terms solved.each_term_lem)
+          ∙ ap (λ l. answer_of (model_of fits (2 ^ sets) said l)) (take_at model.0.arrangement (replicate (max_terms - length model.0.arrangement) 0) terms solved.each_term)
           ∙ ap answer_of (sym (some_renamed terms sets (new_name to) (λ x. get_or back x 0) renaming said declared model.0 model.1))

@@ -44,7 +44,7 @@ module _ (q : Question) (m : SaidModel) (old : List ℕ) {b : Bool} (is : b ≡ 
 pub model_arranged : (q : Question) (values : List Value) → IsArranged (terms_of q) (mask_bound q) (model_of q values)
 model_arranged q values =
     let p = model_placed (terms_of q) q.sets (truth_of values) in
-    record { arranged = p.arranged; each_term_lem = p.long; each_class = p.each_class; masks_below = p.masks_below }
+    record { arranged = p.arranged; each_term = p.long; each_class = p.each_class; masks_below = p.masks_below }
 
 module _ (q : Question) (e : checked q ≡ Accepted) where
   -- terms and sets fit their arrays

@@ -75,10 +75,10 @@ module _ (q : Question) (ok : IsAccepted q) (old : List ℕ) where
         sol = model_said (terms_of q) q.sets truth
 
         placed : IsArranged (terms_of q) (mask_bound q) sol
-        placed = let p = model_placed (terms_of q) q.sets truth in record { arranged = p.arranged; each_term_lem = p.long; each_class = p.each_class; masks_below = p.masks_below }
+        placed = let p = model_placed (terms_of q) q.sets truth in record { arranged = p.arranged; each_term = p.long; each_class = p.each_class; masks_below = p.masks_below }
 
         fits : length (file_of (some sol)) ≤ length old
-        fits = omega (arith, room, some_length sol, placed.each_term_lem, placed.each_class, may_few (terms_of q) (mask_bound q) sol placed, ok.few_terms)
+        fits = omega (arith, room, some_length sol, placed.each_term, placed.each_class, may_few (terms_of q) (mask_bound q) sol placed, ok.few_terms)
 
     -- a question is possible exactly if some text is answered
     pub answerable_exactly : ((text : List ℕ) × (n : ℕ) × (question_solved q text (length old) ≡ Answered n)) ↔ CanHold q.elements (statements q)

@@ -210,7 +210,7 @@ module _ (q : Question) (lines : List ℕ) where
         let a = answers n e in
         let w = model_arranged q reading_in.values in
         let c = counted Accepted (file_of (some model_in)) (length old) n a.counts in
-        omega (arith, c.1, some_length model_in, w.each_term_lem, w.each_class, may_few (terms_of q) (mask_bound q) model_in w, (few q a.table).0)
+        omega (arith, c.1, some_length model_in, w.each_term, w.each_class, may_few (terms_of q) (mask_bound q) model_in w, (few q a.table).0)
 
     -- whatever is answered is an assignment in which every statement holds
     pub record Holds : Type 0 where

@@ -1,10 +1,9 @@
 -- One list among another: its parts, and two lists joined.
 use Prim.Native.Nat.{ℕ, zero, suc}
-use mathlib.Core.Path.{◌≡◌}
 use mathlib.Core.List.{List, [], ◌∷◌, ◌++◌}
-use mathlib.Core.Logic.{◌⊎◌, inl, inr, ⊎_elim}
+use mathlib.Core.Logic.{inl, inr, ⊎_elim}
 use lib.ListN.{take, drop}
-use Rattle.statement.specs.Among.{OneOf, Among}
+use Rattle.statement.specs.Among.{Among}
 
 module _ {A : Type 0} where
   pub among_same : (l : List A) → Among l l

@@ -1,6 +1,6 @@
 -- Statements among others hold where those hold: to leave statements out, to put them in another order or to say one twice makes no possible list impossible.
 use Prim.Native.Nat.{ℕ}
-use mathlib.Core.Path.{◌≡◌, refl, sym, ap, subst}
+use mathlib.Core.Path.{refl, sym, subst}
 use mathlib.Core.List.{List, [], ◌∷◌}
 use mathlib.Core.Logic.{inl, inr, ⊎_elim}
 use lib.Dec.{T}

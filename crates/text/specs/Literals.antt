@@ -1,5 +1,5 @@
 -- Literals as text: the variable's number, with a minus in front where it is denied.
-use Rattle.std.specs.Prelude.{ℕ, ◌≤◌, ◌≡◌, Bool, true, false, cond, List, [], ◌∷◌, ◌++◌, eqb}
+use Rattle.std.specs.Prelude.{ℕ, ◌≤◌, ◌≡◌, true, false, cond, List, [], ◌∷◌, ◌++◌, eqb}
 use Rattle.text.specs.declared.decimals.Number.{Number}
 use Rattle.text.specs.declared.decimals.Number.TheVariants.{Said, NotOne as NoNumber}
 use Rattle.text.specs.declared.literals.Literal.{Literal}

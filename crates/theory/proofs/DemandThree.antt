@@ -68,16 +68,16 @@ module _ (q : Question) (accepted : IsAccepted q) where
 
   -- a solution as a model is an assignment
   pub model_assignment : (sol : Solution) → Solves q sol → IsAssignment q.elements (as_model sol)
-  model_assignment sol s = record { large_enough = omega arith; within = λ a lt. class_below 0 sol.arrangement a.0 (omega (arith, s.each_term_lem, terms_are q)) }
+  model_assignment sol s = record { large_enough = omega arith; within = λ a lt. class_below 0 sol.arrangement a.0 (omega (arith, s.each_term, terms_are q)) }
 
   -- in which every statement holds
   pub model_holds : (sol : Solution) → Solves q sol → AllHold (as_model sol) (statements q)
   unfolding row_list
   model_holds sol s = (holds_met (as_model sol) (mask_of sol.masks) E S (λ d x lt. refl) (statements q) accepted.all_declared).1
-      (solution_meets fits sol s.arranged E (rules_of q) (omega (arith, s.each_term_lem, terms_are q)) rows)
+      (solution_meets fits sol s.arranged E (rules_of q) (omega (arith, s.each_term, terms_are q)) rows)
     where
       rows : Every (λ r. T (met fits sol.arrangement sol.masks r)) (rows_of_rules (length sol.arrangement) E (rules_of q))
-      rows = all_every (met fits sol.arrangement sol.masks) (rows_of_rules (length sol.arrangement) E (rules_of q)) (rw s.each_term_lem s.rows_met)
+      rows = all_every (met fits sol.arrangement sol.masks) (rows_of_rules (length sol.arrangement) E (rules_of q)) (rw s.each_term s.rows_met)
 
   possible_solvable : (pattern : ℕ → ℕ → Bool) → Possible q pattern → Solvable q pattern
   possible_solvable pattern p = let s = (few_classes p.by p.assignment p.holding).0 in

@@ -18,7 +18,7 @@ use Rattle.theory.proofs.MaskLaws.{ModelIs, model_of_is, smallest_one}
 module _ {Test : Type 0} (fits : ℕ → (ℕ → Bool) → Test → Bool) (terms bound : ℕ) (rows : List (Row Test)) where
   -- two first models are equal
   pub first_models_equal : (one other : Solution) → IsFirstModel fits terms bound rows one → IsFirstModel fits terms bound rows other → one ≡ other
-  first_models_equal one other p q = go (compared one.arrangement other.arrangement (p.solution.each_term_lem ∙ sym q.solution.each_term_lem))
+  first_models_equal one other p q = go (compared one.arrangement other.arrangement (p.solution.each_term ∙ sym q.solution.each_term))
     where
       go : Compared one.arrangement other.arrangement → one ≡ other
       go (inl b) = absurd (q.no_earlier one p.solution b)
@@ -32,17 +32,17 @@ module _ {Test : Type 0} (fits : ℕ → (ℕ → Bool) → Test → Bool) (term
 
   module _ (below : TermsBelow terms rows) where
     never : (sol : Solution) → IsSolution fits terms bound rows sol → model_of fits bound rows sol.arrangement ≡ none → ⊥
-    never sol s e = subst (ModelIs fits bound rows terms sol.arrangement) e (model_of_is fits bound rows terms below sol.arrangement s.arranged s.each_term_lem) sol.masks s
+    never sol s e = subst (ModelIs fits bound rows terms sol.arrangement) e (model_of_is fits bound rows terms below sol.arrangement s.arranged s.each_term) sol.masks s
 
     found_is : FoundIs (first_model fits terms bound rows)
     unfolding first_model
     found_is = go (first_placing terms 0 (model_of fits bound rows)) (first_placing_is terms 0 (model_of fits bound rows))
       where
         go : (o : Option Solution) → FirstPlacedIs terms 0 (model_of fits bound rows) o → FoundIs o
-        go none h = λ sol s. never sol s (h sol.arrangement s.arranged s.each_term_lem)
+        go none h = λ sol s. never sol s (h sol.arrangement s.arranged s.each_term)
         go (some sol) h = let m = subst (ModelIs fits bound rows terms h.at) h.gives (model_of_is fits bound rows terms below h.at h.follows h.long) in record {
           solution = m.1;
-          no_earlier = λ other s b. never other s (h.none_before other.arrangement s.arranged s.each_term_lem (subst (Before other.arrangement) m.0 b));
+          no_earlier = λ other s b. never other s (h.none_before other.arrangement s.arranged s.each_term (subst (Before other.arrangement) m.0 b));
           smallest = m.2;
         }
 

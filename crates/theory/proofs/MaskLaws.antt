@@ -95,7 +95,7 @@ module _ {Test : Type 0} (fits : ℕ → (ℕ → Bool) → Test → Bool) where
               solved : IsSolution fits terms bound rows (with_masks l ms)
               solved = record {
                 arranged = arranged;
-                each_term_lem = long;
+                each_term = long;
                 each_class = h.0;
                 masks_below = λ k lt. (each_smallest l ms h k lt).0;
                 rows_met = serves_met l ms rows (subst (λ n. TermsBelow n rows) (sym long) below) (λ k lt. T_true (each_smallest l ms h k lt).1);

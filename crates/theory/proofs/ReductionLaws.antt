@@ -96,7 +96,7 @@ module _ {Test : Type 0} (fits : ℕ → (ℕ → Bool) → Test → Bool) (E : 
     by = solution_by ws ws_below;
     solution = record {
       arranged = arrange_is (elements ws ws_below);
-      each_term_lem = arrange_length (elements ws ws_below) ∙ long;
+      each_term = arrange_length (elements ws ws_below) ∙ long;
       each_class = length-map (points (elements ws ws_below)) M.mask ∙ sym (arrange_classes (elements ws ws_below));
       masks_below = masks_below ws ws_below bound small;
       rows_met = every_all (met fits (l ws ws_below) (solution_by ws ws_below).masks) (rows_of_rules terms E rules) rows;

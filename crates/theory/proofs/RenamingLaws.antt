@@ -38,10 +38,10 @@ module _ (terms sets : ℕ) (from : ℕ → ℕ) (rows others : List (Row Test))
     news,
     record {
       arranged = s.arranged;
-      each_term_lem = s.each_term_lem;
+      each_term = s.each_term;
       each_class = length-map sol.masks moved ∙ s.each_class;
       masks_below = λ k lt. subst (λ m. m < 2 ^ sets) (sym (at_k k lt)) (of_bits_below sets (λ x. bit (mask_of sol.masks k) (from x)));
-      rows_met = meet sol.arrangement sol.masks news s.each_term_lem (λ k lt x h. ap (λ m. bit m x) (at_k k lt) ∙ of_bits_bit sets (λ x. bit (mask_of sol.masks k) (from x)) x h) s.rows_met;
+      rows_met = meet sol.arrangement sol.masks news s.each_term (λ k lt x h. ap (λ m. bit m x) (at_k k lt) ∙ of_bits_bit sets (λ x. bit (mask_of sol.masks k) (from x)) x h) s.rows_met;
     },
   )
     where

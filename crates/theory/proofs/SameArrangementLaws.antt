@@ -46,5 +46,5 @@ module _ {Test : Type 0} (fits : ℕ → (ℕ → Bool) → Test → Bool) (term
       go none q = absurd ((first_model_none fits terms bound rows below).0 q (with_masks sol.arrangement (from sol their.solution).0) ours)
       go (some mine) q =
           let first = (first_model_first fits terms bound rows below mine).0 q in
-          let is = same mine first (compared mine.arrangement sol.arrangement (first.solution.each_term_lem ∙ sym their.solution.each_term_lem)) in
-          q ∙ model mine first is (model_of fits bound rows sol.arrangement) (model_of_is fits bound rows terms below sol.arrangement their.solution.arranged their.solution.each_term_lem)
+          let is = same mine first (compared mine.arrangement sol.arrangement (first.solution.each_term ∙ sym their.solution.each_term)) in
+          q ∙ model mine first is (model_of fits bound rows sol.arrangement) (model_of_is fits bound rows terms below sol.arrangement their.solution.arranged their.solution.each_term)

@@ -38,7 +38,7 @@ module _ {Test : Type 0} (fits : ℕ → (ℕ → Bool) → Test → Bool) where
   -- a solution of the rows: so many terms, masks below the bound
   pub record IsSolution (terms bound : ℕ) (rows : List (Row Test)) (sol : Solution) : Type 0 where
     pub arranged : IsArrangement sol.arrangement
-    pub each_term_lem : length sol.arrangement ≡ terms
+    pub each_term : length sol.arrangement ≡ terms
     pub each_class : length sol.masks ≡ classes sol.arrangement
     pub masks_below : (k : ℕ) → k < classes sol.arrangement → mask_of sol.masks k < bound
     pub rows_met : T (all_rows (met sol.arrangement sol.masks) rows)

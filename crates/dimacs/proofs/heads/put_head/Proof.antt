@@ -1,13 +1,11 @@
 -- `put_head` lays the parts of the line one behind the other.
-use Prim.Native.Nat.{◌+◌, ◌≤◌}
-use mathlib.Core.Path.{◌≡◌, sym, ap, ap₂, ◌∙◌}
-use mathlib.Core.List.{[], ◌∷◌, ◌++◌}
+use mathlib.Core.Path.{sym}
+use mathlib.Core.List.{◌++◌}
 use native.Mathlib.Omega.{arith}
 use borrow.Author.Rules.{rules}
-use lib.ListN.{length}
 use Rattle.text.specs.Pieces.{space, line_end}
 use Rattle.clauses.specs.Texts.{problem}
-use Rattle.dimacs.specs.Walks.{number_text, Put}
+use Rattle.dimacs.specs.Walks.{number_text}
 use Rattle.dimacs.proofs.WroteLaws.{put_more, put_as, head_line_lem, head_length_lem}
 use Rattle.dimacs.proofs.heads.put_head.Statement.{statement}
 use Rattle.dimacs.proofs.heads.put_head.Tie as tie

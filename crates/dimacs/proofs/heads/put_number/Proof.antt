@@ -1,10 +1,10 @@
 -- `put_number` lays the digits, and the byte behind them.
 use Prim.Native.Nat.{◌+◌, ◌≤◌}
-use mathlib.Core.Path.{◌≡◌, sym, ap₂, ◌∙◌}
+use mathlib.Core.Path.{sym, ap₂, ◌∙◌}
 use mathlib.Core.List.{[], ◌∷◌}
 use native.Mathlib.Omega.{arith}
 use borrow.Author.Rules.{rules}
-use lib.ListN.{length, set, length-append}
+use lib.ListN.{set, length-append}
 use Rattle.text.specs.Decimals.{decimal}
 use Rattle.text.proofs.LaidLaws.{laid_one, laid_behind}
 use Rattle.clauses.specs.Texts.{longest_clauses}

@@ -1,11 +1,7 @@
 -- `put_one` lays the words of the clause and its end, one behind the other.
-use Prim.Native.Nat.{◌+◌, ◌≤◌}
-use mathlib.Core.Path.{◌≡◌, ap, ◌∙◌}
-use mathlib.Core.List.{[], ◌∷◌, ◌++◌}
+use mathlib.Core.List.{◌++◌}
 use native.Mathlib.Omega.{arith}
 use borrow.Author.Rules.{rules}
-use lib.ListN.{length, length-append}
-use Rattle.clauses.specs.Texts.{clause_line, longest_clauses}
 use Rattle.clauses.specs.Clauses.{one}
 use Rattle.dimacs.specs.Walks.{word_text, end_text}
 use Rattle.dimacs.proofs.WroteLaws.{line_one, one_length, put_more, one_clause}

@@ -1,10 +1,10 @@
 -- `put_word` lays the literal, and the space behind it.
 use Prim.Native.Nat.{◌+◌, ◌≤◌}
-use mathlib.Core.Path.{◌≡◌, refl, sym, ap, ap₂, ◌∙◌}
+use mathlib.Core.Path.{sym, ap₂, ◌∙◌}
 use mathlib.Core.List.{[], ◌∷◌}
 use native.Mathlib.Omega.{arith}
 use borrow.Author.Rules.{rules}
-use lib.ListN.{length, set, length-append}
+use lib.ListN.{set, length-append}
 use Rattle.text.specs.Pieces.{space}
 use Rattle.text.specs.Literals.{literal_text}
 use Rattle.text.proofs.LaidLaws.{laid_one, laid_behind}

@@ -1,6 +1,5 @@
 -- `put_row` writes the clauses of the row's kind: an arm for each, and a number above 9 reads as kind 0.
-use mathlib.Core.Path.{◌≡◌, sym, ap, ap₂, ◌∙◌}
-use mathlib.Core.List.{[], ◌∷◌}
+use mathlib.Core.Path.{sym, ap, ap₂, ◌∙◌}
 use borrow.Author.Rules.{rules}
 use lib.ListN.{get_or-eq_default}
 use Rattle.text.specs.Literals.{is, is_not}

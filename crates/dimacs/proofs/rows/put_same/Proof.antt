@@ -1,13 +1,13 @@
 -- `put_same` writes nothing of a term and itself, else the variable of the pair.
-use mathlib.Core.Path.{◌≡◌, sym, ap, ap₂, ◌∙◌}
+use mathlib.Core.Path.{sym, ap, ◌∙◌}
 use mathlib.Core.List.{[], ◌∷◌}
 use borrow.Author.Rules.{rules}
 use mathlib.Core.Bool.{cond}
 use borrow.Author.Tests.{eq-eqb, ne_eqb}
-use Rattle.text.specs.Literals.{is, is_not}
-use Rattle.clauses.specs.Variables.{same_variable, in_variable, spare_variable}
-use Rattle.clauses.specs.Clauses.{Clause, one, exactly_if, never}
-use Rattle.dimacs.proofs.WroteLaws.{room_first, room_rest, room_as, one_same, wrote_none, wrote_more, wrote_as}
+use Rattle.text.specs.Literals.{is}
+use Rattle.clauses.specs.Variables.{same_variable}
+use Rattle.clauses.specs.Clauses.{one}
+use Rattle.dimacs.proofs.WroteLaws.{room_as, one_same, wrote_none, wrote_as}
 use Rattle.dimacs.proofs.rows.put_same.Statement.{statement}
 use Rattle.dimacs.proofs.rows.put_same.Tie as tie
 

@@ -1,13 +1,11 @@
 -- `put_spare` writes the two clauses of the spare variable.
-use mathlib.Core.Path.{◌≡◌, sym, ap, ap₂, ◌∙◌}
+use mathlib.Core.Path.{sym, ap, ◌∙◌}
 use mathlib.Core.List.{[], ◌∷◌}
 use borrow.Author.Rules.{rules}
-use mathlib.Core.Bool.{cond}
-use borrow.Author.Tests.{eq-eqb, ne_eqb}
 use Rattle.text.specs.Literals.{is, is_not}
-use Rattle.clauses.specs.Variables.{same_variable, in_variable, spare_variable}
-use Rattle.clauses.specs.Clauses.{Clause, one, exactly_if, never}
-use Rattle.dimacs.proofs.WroteLaws.{room_first, room_rest, room_as, one_same, wrote_none, wrote_more, wrote_as}
+use Rattle.clauses.specs.Variables.{spare_variable}
+use Rattle.clauses.specs.Clauses.{one}
+use Rattle.dimacs.proofs.WroteLaws.{room_first, room_rest, room_as, one_same, wrote_more, wrote_as}
 use Rattle.dimacs.proofs.rows.put_spare.Statement.{statement}
 use Rattle.dimacs.proofs.rows.put_spare.Tie as tie
 

@@ -1,5 +1,5 @@
 -- `put_table` writes the three parts of the clauses one behind the other.
-use mathlib.Core.List.{List, map, ◌++◌}
+use mathlib.Core.List.{map, ◌++◌}
 use borrow.Author.Rules.{rules}
 use Rattle.row.specs.Rows.{row_of}
 use Rattle.clauses.specs.Clauses.{for_each, triples, pairs, row_clauses, table_clauses}

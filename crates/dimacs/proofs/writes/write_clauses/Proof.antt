@@ -1,9 +1,8 @@
 -- `write_clauses` reduces the question; a refusal is the table's, and the rows of an accepted one make its text.
-use Prim.Native.Nat.{◌≤◌}
-use mathlib.Core.Path.{◌≡◌, sym, ap, ◌∙◌}
+use mathlib.Core.Path.{sym, ap, ◌∙◌}
 use native.Mathlib.Omega.{arith}
 use borrow.Author.Rules.{rules}
-use lib.ListN.{length, take, replicate}
+use lib.ListN.{length, replicate}
 use lib.Seq.{length-take-le}
 use Rattle.outcome.specs.Writes.{fitted, fitted_over}
 use Rattle.question.proofs.AcceptedLaws.{accepted}

@@ -4,7 +4,6 @@ use mathlib.Core.Path.{◌≡◌, sym, ◌∙◌}
 use mathlib.Core.Bool.{true}
 use native.Mathlib.Omega.{arith}
 use borrow.Author.Rules.{rules}
-use borrow.Author.Tests.{not-true, not-false}
 use Rattle.statement.specs.Meaning.{everywhere}
 use Rattle.statement.proofs.EverywhereLaws.{walk_none, walk_more, walk_ends, walk_fails}
 use Rattle.judge.specs.Models.{assigned_by}

@@ -1,7 +1,6 @@
 -- `judge_model` refuses a bad model, and else looks for the first statement that fails.
 use mathlib.Core.Path.{sym, ap, ◌∙◌}
 use borrow.Author.Rules.{rules}
-use borrow.Author.Tests.{not-true, not-false}
 use Rattle.judge.specs.declared.judging.Judgement.TheVariants.{Refused}
 use Rattle.judge.specs.Judgements.{model_judged}
 use Rattle.judge.proofs.judging.judge_model.Statement.{statement}

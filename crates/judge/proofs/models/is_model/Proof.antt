@@ -1,7 +1,7 @@
 -- `is_model` makes its three tests in order: each return rewrites with the tests that led there.
 use mathlib.Core.Path.{sym, ◌∙◌}
 use borrow.Author.Rules.{rules}
-use borrow.Author.Tests.{le-leb, lt-leb, not-true, not-false}
+use borrow.Author.Tests.{le-leb, lt-leb}
 use Rattle.question.specs.Limits.{max_terms}
 use Rattle.judge.specs.Models.{is_model}
 use Rattle.judge.proofs.models.is_model.Statement.{statement}

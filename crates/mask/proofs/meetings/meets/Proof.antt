@@ -1,7 +1,6 @@
 -- `meets` passes over an entry of other classes, and else puts its one test.
 use mathlib.Core.Path.{sym, ap, ◌∙◌}
 use borrow.Author.Rules.{rules}
-use borrow.Author.Tests.{not-true, not-false}
 use Rattle.question.specs.Masks.{bit}
 use Rattle.theory.specs.Sets.{fits}
 use Rattle.row.specs.Rows.{row_of_parts, row_of}

@@ -3,9 +3,7 @@ use Prim.Native.Nat.{◌+◌, ◌-◌, ◌≤◌}
 use mathlib.Core.Path.{◌≡◌, refl, sym, subst, ◌∙◌}
 use mathlib.Core.Logic.{⊎_elim}
 use borrow.Author.Rules.{rules}
-use borrow.Author.Tests.{not-true, not-false}
 use lib.ListN.{set}
-use Rattle.question.specs.Masks.{bit}
 use Rattle.mask.specs.declared.trials.Trial.TheVariants.{Next, Over}
 use Rattle.mask.specs.Trials.{TrialIs}
 use Rattle.mask.proofs.TrialLaws.{Carried, carried_pass, carried_resolve, trial_next, trial_over}

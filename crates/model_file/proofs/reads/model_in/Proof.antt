@@ -3,7 +3,7 @@ use Prim.Native.Nat.{◌+◌, ◌-◌}
 use mathlib.Core.Path.{◌≡◌}
 use native.Mathlib.Omega.{arith}
 use borrow.Author.Rules.{rules}
-use lib.ListN.{length, drop, length-drop}
+use lib.ListN.{length, length-drop}
 use Rattle.model_file.proofs.ReadLaws.{parts}
 use Rattle.model_file.proofs.reads.model_in.Statement.{statement}
 use Rattle.model_file.proofs.reads.model_in.Tie as tie

@@ -3,7 +3,6 @@ use mathlib.Core.Path.{◌≡◌, sym, ap, ◌∙◌}
 use mathlib.Core.Bool.{true}
 use native.Mathlib.Omega.{arith}
 use borrow.Author.Rules.{rules}
-use borrow.Author.Tests.{not-true, not-false}
 use Rattle.outcome.specs.declared.checks.Check.TheVariants.{Accepted}
 use Rattle.model_file.specs.declared.reads.ReadModel.{ReadModel}
 use Rattle.model_file.specs.Reads.{has_its_length}

@@ -3,7 +3,7 @@ use Prim.Native.Nat.{◌+◌, ◌-◌, ◌*◌, ◌^◌, ◌≤◌, ◌<◌}
 use mathlib.Core.Path.{◌≡◌, refl, sym, ap, ◌∙◌}
 use native.Mathlib.Omega.{arith}
 use borrow.Author.Rules.{rules}
-use lib.ListN.{length, get_or, take, drop, length-take}
+use lib.ListN.{get_or, take, drop, length-take}
 use lib.Seq.{get_or-take}
 use Rattle.number.specs.Numbers.{most_bytes, number_from, number_in}
 use Rattle.number.proofs.NumberLaws.{number_next, number_end, room_for_byte}

@@ -3,7 +3,6 @@ use Prim.Native.Nat.{◌-◌, ◌≤◌}
 use mathlib.Core.Path.{◌≡◌, refl, sym, ap, ◌∙◌}
 use native.Mathlib.Omega.{arith}
 use borrow.Author.Rules.{rules}
-use borrow.Author.Tests.{not-true, not-false}
 use lib.ListN.{length}
 use Rattle.outcome.specs.declared.checks.Check.TheVariants.{Refused}
 use Rattle.row.proofs.CheckLaws.{check_from, turn, ended}

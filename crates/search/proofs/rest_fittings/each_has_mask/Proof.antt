@@ -4,7 +4,6 @@ use mathlib.Core.Path.{sym, ◌∙◌}
 use mathlib.Core.Bool.{true≢false}
 use native.Mathlib.Omega.{arith}
 use borrow.Author.Rules.{rules}
-use borrow.Author.Tests.{not-true}
 use Rattle.question.specs.Limits.{max_terms}
 use Rattle.search.specs.Memos.{mask_of_group, Memo}
 use Rattle.search.proofs.MemoLaws.{not_there}

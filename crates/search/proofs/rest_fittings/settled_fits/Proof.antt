@@ -1,7 +1,6 @@
 -- `settled_fits` asks of the groups first: where one has no mask, nothing fits.
 use Prim.Native.Nat.{◌^◌}
 use mathlib.Core.Path.{sym, ◌∙◌}
-use borrow.Author.Tests.{not-true}
 use Rattle.mask.specs.Entries.{rows_of_entries}
 use Rattle.cut.proofs.PartLaws.{part_cut}
 use Rattle.cut.proofs.SetLaws.{set_tests}

@@ -2,7 +2,6 @@
 use mathlib.Core.Path.{sym, ◌∙◌}
 use native.Mathlib.Omega.{arith}
 use borrow.Author.Rules.{rules}
-use borrow.Author.Tests.{not-true, not-false}
 use Rattle.row.proofs.AcceptedRows.{RowsAccepted, rows_keep, all_declared}
 use Rattle.search.proofs.PlacingLaws.{placing_counted}
 use Rattle.search.proofs.RenamingLaws.{plain_stays}
