@@ -79,7 +79,7 @@ Fails bytes sol = judged (read_question bytes).question (model_shown sol) ≡ Ye
 -- the ways in which `sayfudhoum_solved` ends: the number that it gives back, and the buffer that it leaves
 pub data Takes (bytes lines old : List ℕ) (number : ℕ) (new : List ℕ) : Type 0 where
   file_refused : (r : Refusal) → (read_question bytes).outcome ≡ Refused r → number ≡ r.place * 256 + r.number → new ≡ old → Takes bytes lines old number new
-  lines_bad : (at : ℕ) → (read_question bytes).outcome ≡ Accepted → (lines_read (variables_in bytes) lines).outcome ≡ Refused (refusal bad_lines at) → at ≤ length lines → number ≡ at % 2 ^ 56 * 256 + 13 → new ≡ old →
+  unformed_lines : (at : ℕ) → (read_question bytes).outcome ≡ Accepted → (lines_read (variables_in bytes) lines).outcome ≡ Refused (refusal bad_lines at) → at ≤ length lines → number ≡ at % 2 ^ 56 * 256 + 13 → new ≡ old →
       Takes bytes lines old number new
   unsatisfiable : (read_question bytes).outcome ≡ Accepted → SaysUnsatisfiable lines → number ≡ 0 → new ≡ old → Takes bytes lines old number new
   model_failing : (sol : Solution) → IsSaid bytes lines sol → Fails bytes sol → number ≡ 14 → new ≡ old → Takes bytes lines old number new
@@ -116,7 +116,7 @@ module _ (bytes lines : List ℕ) (e : (read_question bytes).outcome ≡ Accepte
         let l = lines_refused q lines old refl p in
         let at = lines_place (variables_of q) lines r p in
         came (SolvedRefused r) old (behind_file.0 ∙ l.0) (behind_file.1 ∙ l.1)
-        (lines_bad r.place e (p ∙ ap (λ n. Refused (refusal n r.place)) at.0) at.1 (ap (λ n. r.place % 2 ^ 56 * 256 + n) at.0) refl)
+        (unformed_lines r.place e (p ∙ ap (λ n. Refused (refusal n r.place)) at.0) at.1 (ap (λ n. r.place % 2 ^ 56 * 256 + n) at.0) refl)
 
     lines_word : (lines_read (variables_of q) lines).outcome ≡ Accepted → (lines_read (variables_of q) lines).reading.stage ≡ Refuted → Takes bytes lines old (solved_number bytes lines (length old)) (file_solved_over bytes lines old)
     lines_word p s =
@@ -216,7 +216,7 @@ module _ (c : Call solved-call.Learnt) where
     where
       go : Takes file lines old c.result new → (sol : Solution) × IsGood file lines sol × (n ≡ length (file_of (some sol))) × (n ≤ length old) × (new ≡ over (file_of (some sol)) old)
       go (file_refused r p m b) = let t = (refusal_told file r p).0 in absurd (omega (arith, k.1, m, t.0, t.1))
-      go (lines_bad at p x h m b) = absurd (omega (arith, k.1, m))
+      go (unformed_lines at p x h m b) = absurd (omega (arith, k.1, m))
       go (unsatisfiable p u m b) = absurd (omega (arith, k.1, m, k.0))
       go (model_failing sol s f m b) = absurd (omega (arith, k.1, m))
       go (too_short sol g h m b) = absurd (omega (arith, k.1, m))
@@ -243,7 +243,7 @@ module _ (c : Call solved-call.Learnt) where
     where
       go : ((n : ℕ) → Counts n → ⊥) → Takes file lines old c.result new → new ≡ old
       go none_counted (file_refused r p m b) = b
-      go none_counted (lines_bad at p x h m b) = b
+      go none_counted (unformed_lines at p x h m b) = b
       go none_counted (unsatisfiable p u m b) = b
       go none_counted (model_failing sol s f m b) = b
       go none_counted (too_short sol g h m b) = b

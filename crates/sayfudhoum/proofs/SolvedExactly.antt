@@ -42,7 +42,7 @@ use Rattle.sayfudhoum.proofs.EndToEnd.{question_accepted, refused_accepted}
 use Rattle.sayfudhoum.proofs.Exactness.{Tells, tells_one, file_tells}
 use Rattle.sayfudhoum.proofs.exports.sayfudhoum_solved.Reads as solved-call
 use Rattle.lines.proofs.FormLaws.{bad_exactly}
-use Rattle.sayfudhoum.proofs.SolvedEnds.{variables_in, IsSaid, IsGood, Fails, Takes, file_refused, lines_bad, unsatisfiable, model_failing, too_short, answered, said_good, solved_ends, Counts, solved_answer_bytes}
+use Rattle.sayfudhoum.proofs.SolvedEnds.{variables_in, IsSaid, IsGood, Fails, Takes, file_refused, unformed_lines, unsatisfiable, model_failing, too_short, answered, said_good, solved_ends, Counts, solved_answer_bytes}
 
 -- lines say one model at most, and not unsatisfiable beside it
 module _ (bytes lines : List ℕ) where
@@ -97,7 +97,7 @@ module _ (c : Call solved-call.Learnt) where
     where
       means : c.result ≡ 0 → Takes file lines old c.result new → ((read_question file).outcome ≡ Accepted) × SaysUnsatisfiable lines
       means e (file_refused r p n b) = let t = (refusal_told file r p).0 in absurd (omega (arith, e, n, t.0))
-      means e (lines_bad at p x h n b) = absurd (omega (arith, e, n))
+      means e (unformed_lines at p x h n b) = absurd (omega (arith, e, n))
       means e (unsatisfiable p u n b) = (p, u)
       means e (model_failing sol s f n b) = absurd (omega (arith, e, n))
       means e (too_short sol g h n b) = absurd (omega (arith, e, n))
@@ -105,7 +105,7 @@ module _ (c : Call solved-call.Learnt) where
 
       gives : (read_question file).outcome ≡ Accepted → SaysUnsatisfiable lines → Takes file lines old c.result new → c.result ≡ 0
       gives p u (file_refused r x n b) = refused_accepted x p
-      gives p u (lines_bad at x y h n b) = not_word_bad file lines u y
+      gives p u (unformed_lines at x y h n b) = not_word_bad file lines u y
       gives p u (unsatisfiable x y n b) = n
       gives p u (model_failing sol s f n b) = not_both_said file lines sol s u
       gives p u (too_short sol g h n b) = not_both_said file lines sol g.said u
@@ -117,7 +117,7 @@ module _ (c : Call solved-call.Learnt) where
     where
       means : (n : ℕ) → 0 < n → c.result ≡ n * 256 → Takes file lines old c.result new → (sol : Solution) × IsGood file lines sol × (length (file_of (some sol)) ≤ length old)
       means n any e (file_refused r p m b) = let t = (refusal_told file r p).0 in absurd (omega (arith, e, m, t.0, t.1))
-      means n any e (lines_bad at p x h m b) = absurd (omega (arith, e, m))
+      means n any e (unformed_lines at p x h m b) = absurd (omega (arith, e, m))
       means n any e (unsatisfiable p u m b) = absurd (omega (arith, e, m, any))
       means n any e (model_failing sol s f m b) = absurd (omega (arith, e, m))
       means n any e (too_short sol g h m b) = absurd (omega (arith, e, m))
@@ -125,7 +125,7 @@ module _ (c : Call solved-call.Learnt) where
 
       gives : (sol : Solution) → IsGood file lines sol → length (file_of (some sol)) ≤ length old → Takes file lines old c.result new → (n : ℕ) × Counts c n
       gives sol g room (file_refused r p m b) = refused_accepted p g.said.file_accepted
-      gives sol g room (lines_bad at p x h m b) = not_said_bad file lines sol g.said x
+      gives sol g room (unformed_lines at p x h m b) = not_said_bad file lines sol g.said x
       gives sol g room (unsatisfiable p u m b) = not_both_said file lines sol g.said u
       gives sol g room (model_failing other s f m b) = absurd (f (subst (λ x. judged (read_question file).question (model_shown x) ≡ Yes) (said_one file lines sol other g.said s) g.judged_yes))
       gives sol g room (too_short other k h m b) = absurd (omega (arith, room, h, ap (λ x. length (file_of (some x))) (said_one file lines sol other g.said k.said)))
@@ -137,7 +137,7 @@ module _ (c : Call solved-call.Learnt) where
     where
       means : (place : ℕ) → c.result ≡ place * 256 + 13 → Takes file lines old c.result new → ((read_question file).outcome ≡ Accepted) × (OfForm (variables_in file) lines → ⊥)
       means place e (file_refused r p m b) = let t = (refusal_told file r p).0 in absurd (omega (arith, e, m, t.0, t.1))
-      means place e (lines_bad at p x h m b) = (p, (bad_exactly (variables_in file) lines (few_variables (read_question file).question (question_accepted file p).0)).0 (at, x))
+      means place e (unformed_lines at p x h m b) = (p, (bad_exactly (variables_in file) lines (few_variables (read_question file).question (question_accepted file p).0)).0 (at, x))
       means place e (unsatisfiable p u m b) = absurd (omega (arith, e, m))
       means place e (model_failing sol s f m b) = absurd (omega (arith, e, m))
       means place e (too_short sol g h m b) = absurd (omega (arith, e, m))
@@ -145,7 +145,7 @@ module _ (c : Call solved-call.Learnt) where
 
       gives : (read_question file).outcome ≡ Accepted → (OfForm (variables_in file) lines → ⊥) → Takes file lines old c.result new → (place : ℕ) × (c.result ≡ place * 256 + 13)
       gives p unformed (file_refused r x m b) = refused_accepted x p
-      gives p unformed (lines_bad at x y h m b) = (at % 2 ^ 56, m)
+      gives p unformed (unformed_lines at x y h m b) = (at % 2 ^ 56, m)
       gives p unformed (unsatisfiable x u m b) = absurd (unformed (inr u))
       gives p unformed (model_failing sol s f m b) = absurd (unformed (inl (s.literals, s.says)))
       gives p unformed (too_short sol g h m b) = absurd (unformed (inl (g.said.literals, g.said.says)))
@@ -161,7 +161,7 @@ module _ (c : Call solved-call.Learnt) where
 
       means : c.result ≡ place * 256 + 13 → Takes file lines old c.result new → ((read_question file).outcome ≡ Accepted) × ((lines_read (variables_in file) lines).outcome ≡ Refused (refusal bad_lines place))
       means e (file_refused r p m b) = let t = (refusal_told file r p).0 in absurd (omega (arith, e, m, t.0, t.1))
-      means e (lines_bad at p x h m b) = let sum = sym e ∙ m ∙ told at h in let same : at ≡ place = omega (arith, sum) in (p, x ∙ ap (λ n. Refused (refusal bad_lines n)) same)
+      means e (unformed_lines at p x h m b) = let sum = sym e ∙ m ∙ told at h in let same : at ≡ place = omega (arith, sum) in (p, x ∙ ap (λ n. Refused (refusal bad_lines n)) same)
       means e (unsatisfiable p u m b) = absurd (omega (arith, e, m))
       means e (model_failing sol s f m b) = absurd (omega (arith, e, m))
       means e (too_short sol g h m b) = absurd (omega (arith, e, m))
@@ -169,7 +169,7 @@ module _ (c : Call solved-call.Learnt) where
 
       gives : (read_question file).outcome ≡ Accepted → (lines_read (variables_in file) lines).outcome ≡ Refused (refusal bad_lines place) → Takes file lines old c.result new → c.result ≡ place * 256 + 13
       gives p x (file_refused r y m b) = refused_accepted y p
-      gives p x (lines_bad at y z h m b) = let both = sym z ∙ x in let same : refusal bad_lines at ≡ refusal bad_lines place = cc in m ∙ told at h ∙ ap (λ r. r.place * 256 + 13) same
+      gives p x (unformed_lines at y z h m b) = let both = sym z ∙ x in let same : refusal bad_lines at ≡ refusal bad_lines place = cc in m ∙ told at h ∙ ap (λ r. r.place * 256 + 13) same
       gives p x (unsatisfiable y u m b) = not_word_bad file lines u x
       gives p x (model_failing sol s f m b) = not_said_bad file lines sol s x
       gives p x (too_short sol g h m b) = not_said_bad file lines sol g.said x
@@ -181,7 +181,7 @@ module _ (c : Call solved-call.Learnt) where
     where
       means : c.result ≡ 14 → Takes file lines old c.result new → (sol : Solution) × IsSaid file lines sol × Fails file sol
       means e (file_refused r p m b) = let t = (refusal_told file r p).0 in absurd (omega (arith, e, m, t.0, t.1))
-      means e (lines_bad at p x h m b) = absurd (omega (arith, e, m))
+      means e (unformed_lines at p x h m b) = absurd (omega (arith, e, m))
       means e (unsatisfiable p u m b) = absurd (omega (arith, e, m))
       means e (model_failing sol s f m b) = (sol, s, f)
       means e (too_short sol g h m b) = absurd (omega (arith, e, m))
@@ -192,7 +192,7 @@ module _ (c : Call solved-call.Learnt) where
 
       gives : (sol : Solution) → IsSaid file lines sol → Fails file sol → Takes file lines old c.result new → c.result ≡ 14
       gives sol s f (file_refused r p m b) = refused_accepted p s.file_accepted
-      gives sol s f (lines_bad at p x h m b) = not_said_bad file lines sol s x
+      gives sol s f (unformed_lines at p x h m b) = not_said_bad file lines sol s x
       gives sol s f (unsatisfiable p u m b) = not_both_said file lines sol s u
       gives sol s f (model_failing other t k m b) = m
       gives sol s f (too_short other g h m b) = unlike sol other s f g
@@ -204,7 +204,7 @@ module _ (c : Call solved-call.Learnt) where
     where
       means : c.result ≡ 10 → Takes file lines old c.result new → (sol : Solution) × IsGood file lines sol × (length old < length (file_of (some sol)))
       means e (file_refused r p m b) = let t = (refusal_told file r p).0 in absurd (omega (arith, e, m, t.0, t.1))
-      means e (lines_bad at p x h m b) = absurd (omega (arith, e, m))
+      means e (unformed_lines at p x h m b) = absurd (omega (arith, e, m))
       means e (unsatisfiable p u m b) = absurd (omega (arith, e, m))
       means e (model_failing sol s f m b) = absurd (omega (arith, e, m))
       means e (too_short sol g h m b) = (sol, g, h)
@@ -212,7 +212,7 @@ module _ (c : Call solved-call.Learnt) where
 
       gives : (sol : Solution) → IsGood file lines sol → length old < length (file_of (some sol)) → Takes file lines old c.result new → c.result ≡ 10
       gives sol g short (file_refused r p m b) = refused_accepted p g.said.file_accepted
-      gives sol g short (lines_bad at p x h m b) = not_said_bad file lines sol g.said x
+      gives sol g short (unformed_lines at p x h m b) = not_said_bad file lines sol g.said x
       gives sol g short (unsatisfiable p u m b) = not_both_said file lines sol g.said u
       gives sol g short (model_failing other s f m b) = absurd (f (subst (λ x. judged (read_question file).question (model_shown x) ≡ Yes) (said_one file lines sol other g.said s) g.judged_yes))
       gives sol g short (too_short other k h m b) = m
@@ -228,7 +228,7 @@ module _ (c : Call solved-call.Learnt) where
     where
       told : Tells c.result r → r.number < 10 → Takes file lines old c.result new → (read_question file).outcome ≡ Refused r
       told t small (file_refused s p m b) = p ∙ ap Refused (tells_one c.result s r (file_tells file s c.result p m).0 t)
-      told t small (lines_bad at p x h m b) = absurd (omega (arith, t.0, t.1, small, m))
+      told t small (unformed_lines at p x h m b) = absurd (omega (arith, t.0, t.1, small, m))
       told t small (unsatisfiable p u m b) = absurd (omega (arith, t.0, t.1, m))
       told t small (model_failing sol s f m b) = absurd (omega (arith, t.0, t.1, small, m))
       told t small (too_short sol g h m b) = absurd (omega (arith, t.0, t.1, small, m))
@@ -236,7 +236,7 @@ module _ (c : Call solved-call.Learnt) where
 
       gives : (read_question file).outcome ≡ Refused r → Takes file lines old c.result new → Tells c.result r × (r.number < 10)
       gives p (file_refused s x m b) = let same : s ≡ r = cc in rw same at (file_tells file s c.result x m)
-      gives p (lines_bad at x y h m b) = refused_accepted p x
+      gives p (unformed_lines at x y h m b) = refused_accepted p x
       gives p (unsatisfiable x u m b) = refused_accepted p x
       gives p (model_failing sol s f m b) = refused_accepted p s.file_accepted
       gives p (too_short sol g h m b) = refused_accepted p g.said.file_accepted
@@ -261,7 +261,7 @@ module _ (c : Call solved-call.Learnt) where
       where
         go : Takes file lines old c.result new → r ≡ refusal 10 0
         go (file_refused s x n b) = refused_accepted x p
-        go (lines_bad at x y h n b) = not_said_bad file lines right_model right_good.said y
+        go (unformed_lines at x y h n b) = not_said_bad file lines right_model right_good.said y
         go (unsatisfiable x u n b) = not_both_said file lines right_model right_good.said u
         go (model_failing sol s f n b) = absurd (f (subst (λ x. judged (read_question file).question (model_shown x) ≡ Yes) (said_one file lines right_model sol right_good.said s) right_good.judged_yes))
         go (too_short sol g h n b) = tells_one c.result r (refusal 10 0) t (n, omega arith, omega arith)
