@@ -45,7 +45,7 @@ fn put_three(
 ) -> ClashWritten
     requires { checked found ≡ Accepted }
     ensures value { result ≡ three_written (three (question_bytes found) old.now said.now) (three part.old indexes.old answer.old) }
-    ensures answer_after { three part.new indexes.new answer.new ≡ three_over (three (question_bytes found) old.now said.now) (three part.old indexes.old answer.old) }
+    ensures buffers { three part.new indexes.new answer.new ≡ three_over (three (question_bytes found) old.now said.now) (three part.old indexes.old answer.old) }
 {
     if (indexes.len() < old.len()) | (answer.len() < said.len()) {
         return ClashWritten::Refused(Refusal::new(Refusal::BUFFER_TOO_SHORT, 0));
@@ -70,7 +70,7 @@ fn write_clash(
 ) -> ClashWritten
     requires { (checked q ≡ Accepted) × (found ≡ clashed q) }
     ensures value { result ≡ three_written (clash_bytes q) (three part.old indexes.old answer.old) }
-    ensures answer_after { three part.new indexes.new answer.new ≡ three_over (clash_bytes q) (three part.old indexes.old answer.old) }
+    ensures buffers { three part.new indexes.new answer.new ≡ three_over (clash_bytes q) (three part.old indexes.old answer.old) }
 {
     let mut said = [0u8; Answer::MAX_BYTES];
     let own = found.answer;
@@ -93,7 +93,7 @@ pub fn clash_file(
     answer: &mut [u8],
 ) -> ClashWritten
     ensures value { result ≡ clash_written bytes.now (three part.old indexes.old answer.old) }
-    ensures answer_after { three part.new indexes.new answer.new ≡ clash_over bytes.now (three part.old indexes.old answer.old) }
+    ensures buffers { three part.new indexes.new answer.new ≡ clash_over bytes.now (three part.old indexes.old answer.old) }
 {
     let read = read_question(bytes);
     let outcome = read.outcome;

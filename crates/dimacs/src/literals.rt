@@ -1,6 +1,6 @@
 // One clause into a lent buffer, literal by literal: each with a space behind it, then the 0 and the end of the line.
 ghost use Rattle.std.specs.Prelude.{◌≡◌, [], ◌∷◌, ◌+◌, ◌≤◌, length};
-ghost use Rattle.text.specs.Literals.{is as isLiteral, is_not};
+ghost use Rattle.text.specs.Literals.{is as is_literal, is_not};
 ghost use Rattle.clauses.specs.Texts.{longest_clauses};
 ghost use Rattle.clauses.specs.Clauses.{one, two, three};
 ghost use Rattle.dimacs.specs.Walks.{word_text, end_text, Put, Wrote, Room};
@@ -10,7 +10,7 @@ use text::{Literal, put_byte, put_literal};
 
 // The variable, and its denial.
 pub(crate) fn is(variable: usize) -> Literal
-    ensures { result ≡ isLiteral variable }
+    ensures { result ≡ is_literal variable }
 {
     Literal {
         denied: false,

@@ -1,10 +1,10 @@
 -- Each public contract of this crate leaves one result.
 use Rattle.outcome.specs.OneResult.{OneResult}
 use Rattle.outcome.proofs.OneLaw.{both}
-use Rattle.judge.proofs.judging.judge_model.Reads as judge-model
+use Rattle.judge.proofs.judging.judge_model.Reads as judge_model
 use Rattle.judge.proofs.judging.judge.Reads as judge
 
-judge_model_one : OneResult judge-model.Learnt
+judge_model_one : OneResult judge_model.Learnt
 judge_model_one κs given x y s t = both
 
 judge_one : OneResult judge.Learnt

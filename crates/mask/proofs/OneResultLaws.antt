@@ -3,8 +3,8 @@ use Rattle.outcome.specs.OneResult.{OneResult}
 use Rattle.outcome.proofs.OneLaw.{both}
 use Rattle.mask.proofs.entries.entry_of.Reads as entry_of
 use Rattle.mask.proofs.entries.row_in.Reads as row_in
-use Rattle.mask.proofs.entries.terms_in.Reads as terms-in
-use Rattle.mask.proofs.masks.smallest_mask.Reads as smallest-mask
+use Rattle.mask.proofs.entries.terms_in.Reads as terms_in
+use Rattle.mask.proofs.masks.smallest_mask.Reads as smallest_mask
 
 entry_of_one : OneResult entry_of.Learnt
 entry_of_one κs given x y s t = both
@@ -12,8 +12,8 @@ entry_of_one κs given x y s t = both
 row_in_one : OneResult row_in.Learnt
 row_in_one κs given x y s t = both
 
-terms_in_one : OneResult terms-in.Learnt
+terms_in_one : OneResult terms_in.Learnt
 terms_in_one κs given x y s t = both
 
-smallest_mask_one : OneResult smallest-mask.Learnt
+smallest_mask_one : OneResult smallest_mask.Learnt
 smallest_mask_one κs given x y s t = both

@@ -1,6 +1,6 @@
 // Does a mask meet the rows of an entry.
 ghost use Rattle.std.specs.Prelude.{◌≡◌};
-ghost use Rattle.question.specs.Masks.{bit as hasBit};
+ghost use Rattle.question.specs.Masks.{bit as has_bit};
 ghost use Rattle.theory.specs.Sets.{fits};
 ghost use Rattle.row.specs.Rows.{row_of_parts};
 ghost use Rattle.mask.specs.Meetings.{is_asked, meets_entry, PlacesAreBits};
@@ -12,7 +12,7 @@ use row::{RowParts, unpack};
 // Does a class with the mask m pass the row's test.
 fn passes(p: RowParts, class: u32, m: u32) -> bool
     requires { PlacesAreBits p }
-    ensures { result ≡ fits m (hasBit class) (row_of_parts p).test }
+    ensures { result ≡ fits m (has_bit class) (row_of_parts p).test }
 {
     let kind = p.kind;
     let x = p.first;

@@ -39,7 +39,7 @@ use Rattle.sayfudhoum.specs.Files.{answer_in}
 use Rattle.sayfudhoum.specs.Numbers.{counts_number, clashed_number, clash_number}
 use Rattle.sayfudhoum.proofs.EndToEnd.{IsImpossible, IsPossible, IsShown, impossible_file, question_accepted, none_means, some_shown, refused_accepted, not_both, possible_shown, none_file}
 use Rattle.sayfudhoum.proofs.Exactness.{Tells, tells_one, file_tells}
-use Rattle.sayfudhoum.proofs.exports.sayfudhoum_clash.Reads as clash-call
+use Rattle.sayfudhoum.proofs.exports.sayfudhoum_clash.Reads as clash_call
 
 -- a file of the clashing part of an impossible file, with the old indexes of its statements
 pub record IsClashOf (bytes part indexes : List ℕ) : Type 0 where
@@ -155,7 +155,7 @@ clash_small bytes part indexes c =
     (omega (arith, ap length few.1, longest (read_question part).question (read_checked part ok)), omega (arith, size, statements_length (read_question part).question, few.0.few_statements))
 
 -- a call of `sayfudhoum_clash` on a file, with three buffers
-module _ (c : Call clash-call.Learnt) where
+module _ (c : Call clash_call.Learnt) where
   abbrev file : List ℕ
   file = c.given.0.now
 

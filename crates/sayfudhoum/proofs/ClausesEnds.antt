@@ -29,8 +29,8 @@ use Rattle.clauses.proofs.Satisfiable.{possible_exactly, impossible_exactly}
 use Rattle.sayfudhoum.specs.Numbers.{written_number, clauses_number}
 use Rattle.sayfudhoum.proofs.EndToEnd.{IsImpossible, IsPossible, question_accepted, refused_accepted}
 use Rattle.sayfudhoum.proofs.Exactness.{Tells, tells_one, file_tells, possible_exactly as verdict_possible, impossible_exactly as verdict_impossible}
-use Rattle.sayfudhoum.proofs.exports.sayfudhoum_clauses.Reads as clauses-call
-use Rattle.sayfudhoum.proofs.exports.sayfudhoum_verdict.Reads as verdict-call
+use Rattle.sayfudhoum.proofs.exports.sayfudhoum_clauses.Reads as clauses_call
+use Rattle.sayfudhoum.proofs.exports.sayfudhoum_verdict.Reads as verdict_call
 
 -- the text of the clauses of a file's question
 abbrev pub text_in : List ℕ → List ℕ
@@ -61,8 +61,8 @@ pub record IsTextOf (bytes text : List ℕ) : Type 0 where
   pub lines : pieces line_end text ≡ head_of (read_question bytes).question ∷ (map line_of (clauses_of (read_question bytes).question) ++ ([] ∷ []))
   pub meant : Satisfiable (clauses_of (read_question bytes).question) ↔ IsPossible bytes
   pub not_meant : (Satisfiable (clauses_of (read_question bytes).question) → ⊥) ↔ IsImpossible bytes
-  pub decided : (v : Call verdict-call.Learnt) → v.given.0.now ≡ bytes → Satisfiable (clauses_of (read_question bytes).question) ↔ (v.result ≡ 256)
-  pub not_decided : (v : Call verdict-call.Learnt) → v.given.0.now ≡ bytes → (Satisfiable (clauses_of (read_question bytes).question) → ⊥) ↔ (v.result ≡ 0)
+  pub decided : (v : Call verdict_call.Learnt) → v.given.0.now ≡ bytes → Satisfiable (clauses_of (read_question bytes).question) ↔ (v.result ≡ 256)
+  pub not_decided : (v : Call verdict_call.Learnt) → v.given.0.now ≡ bytes → (Satisfiable (clauses_of (read_question bytes).question) → ⊥) ↔ (v.result ≡ 0)
 
 module _ (bytes : List ℕ) (e : (read_question bytes).outcome ≡ Accepted) where
   abbrev q : Question
@@ -78,12 +78,12 @@ module _ (bytes : List ℕ) (e : (read_question bytes).outcome ≡ Accepted) whe
       let same = impossible_exactly q (question_accepted bytes e).0 in
       (λ s. record { file_accepted = e; no_assignment = same.0 s }, λ i. same.1 i.no_assignment)
 
-  decides : (v : Call verdict-call.Learnt) → v.given.0.now ≡ bytes → Satisfiable (clauses_of q) ↔ (v.result ≡ 256)
+  decides : (v : Call verdict_call.Learnt) → v.given.0.now ≡ bytes → Satisfiable (clauses_of q) ↔ (v.result ≡ 256)
   decides v is =
       let said = verdict_possible v in
       (λ s. said.1 (subst IsPossible (sym is) (means.0 s)), λ n. means.1 (subst IsPossible is (said.0 n)))
 
-  decides_not : (v : Call verdict-call.Learnt) → v.given.0.now ≡ bytes → (Satisfiable (clauses_of q) → ⊥) ↔ (v.result ≡ 0)
+  decides_not : (v : Call verdict_call.Learnt) → v.given.0.now ≡ bytes → (Satisfiable (clauses_of q) → ⊥) ↔ (v.result ≡ 0)
   decides_not v is =
       let said = verdict_impossible v in
       (λ s. said.1 (subst IsImpossible (sym is) (means_not.0 s)), λ n. means_not.1 (subst IsImpossible is (said.0 n)))
@@ -96,7 +96,7 @@ written_as : (file old new : List ℕ) (n m : ℕ) (buf : List ℕ) → n ≡ m 
 written_as file old new n m buf p q w = rw (p, q) w
 
 -- a call of `sayfudhoum_clauses` on a file, with a buffer
-module _ (c : Call clauses-call.Learnt) where
+module _ (c : Call clauses_call.Learnt) where
   abbrev file : List ℕ
   file = c.given.0.now
 

@@ -45,8 +45,8 @@ use Rattle.judge.specs.Shown.{model_shown}
 use Rattle.sayfudhoum.specs.Files.{answer_in, file_decided, answered, answered_over}
 use Rattle.sayfudhoum.specs.Numbers.{written_number, decision_number, answer_number, verdict_number}
 use Rattle.judge.proofs.ShownLaws.{judge_yes}
-use Rattle.sayfudhoum.proofs.exports.sayfudhoum_answer.Reads as answer-call
-use Rattle.sayfudhoum.proofs.exports.sayfudhoum_verdict.Reads as verdict-call
+use Rattle.sayfudhoum.proofs.exports.sayfudhoum_answer.Reads as answer_call
+use Rattle.sayfudhoum.proofs.exports.sayfudhoum_verdict.Reads as verdict_call
 
 -- the file is accepted, and no assignment over any finite domain meets the statements of its question
 pub record IsImpossible (bytes : List ℕ) : Type 0 where
@@ -164,15 +164,15 @@ module _ (bytes : List ℕ) where
       go Accepted (some sol) p n = rw n (possible sol (some_shown bytes p sol n) refl)
 
 -- every call of `sayfudhoum_answer` ends in one of these ways
-pub answer_ends : (c : Call answer-call.Learnt) → Answers c.given.0.now c.given.1.0.now c.result c.exit.1.0.now
+pub answer_ends : (c : Call answer_call.Learnt) → Answers c.given.0.now c.given.1.0.now c.result c.exit.1.0.now
 answer_ends c = rw (c.fits.0, c.fits.1) (answers c.given.0.now c.given.1.0.now)
 
 -- and every call of `sayfudhoum_verdict` in one of these
-pub verdict_ends : (c : Call verdict-call.Learnt) → Decides c.given.0.now c.result
+pub verdict_ends : (c : Call verdict_call.Learnt) → Decides c.given.0.now c.result
 verdict_ends c = rw c.fits (decides c.given.0.now)
 
 -- a call of `sayfudhoum_verdict` on a file
-module _ (c : Call verdict-call.Learnt) where
+module _ (c : Call verdict_call.Learnt) where
   abbrev asked : List ℕ
   asked = c.given.0.now
 

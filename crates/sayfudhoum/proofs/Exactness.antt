@@ -22,8 +22,8 @@ use Rattle.answer.specs.Bytes.{file_of}
 use Rattle.answer.proofs.AnswerLaws.{some_length}
 use Rattle.sayfudhoum.specs.Files.{answer_in}
 use Rattle.sayfudhoum.proofs.EndToEnd.{IsImpossible, IsPossible, IsShown, impossible_file, none_means, some_first, refused_accepted, not_both, possible_shown, none_file, Answers, file_refused, too_short, impossible, possible, answer_ends, Decides, verdict_ends, says_impossible, says_possible}
-use Rattle.sayfudhoum.proofs.exports.sayfudhoum_answer.Reads as answer-call
-use Rattle.sayfudhoum.proofs.exports.sayfudhoum_verdict.Reads as verdict-call
+use Rattle.sayfudhoum.proofs.exports.sayfudhoum_answer.Reads as answer_call
+use Rattle.sayfudhoum.proofs.exports.sayfudhoum_verdict.Reads as verdict_call
 
 -- a refusal's number and its place, as one number: the lowest byte is not 0
 abbrev pub Tells : ℕ → Refusal → Type 0
@@ -38,7 +38,7 @@ pub file_tells : (bytes : List ℕ) (r : Refusal) (n : ℕ) → (read_question b
 file_tells bytes r n p e = let t = (refusal_told bytes r p).0 in ((e, omega (arith, t.0), omega (arith, t.1)), omega (arith, t.1))
 
 -- a call of `sayfudhoum_verdict` on a file
-module _ (c : Call verdict-call.Learnt) where
+module _ (c : Call verdict_call.Learnt) where
   abbrev asked : List ℕ
   asked = c.given.0.now
 
@@ -75,7 +75,7 @@ module _ (c : Call verdict-call.Learnt) where
       gives p (possible sol s n) = refused_accepted p s.file_accepted
 
 -- a call of `sayfudhoum_answer` on a file, with a buffer
-module _ (c : Call answer-call.Learnt) where
+module _ (c : Call answer_call.Learnt) where
   abbrev file : List ℕ
   file = c.given.0.now
 

@@ -32,7 +32,7 @@ use Rattle.model_file.proofs.Verdicts.{Judging, model_bad as judged_bad, fails_a
 use Rattle.sayfudhoum.specs.Numbers.{judgement_number, judge_number}
 use Rattle.sayfudhoum.proofs.EndToEnd.{IsPossible, IsShown, question_accepted, some_first, refused_accepted}
 use Rattle.sayfudhoum.proofs.Exactness.{Tells, tells_one, file_tells}
-use Rattle.sayfudhoum.proofs.exports.sayfudhoum_judge.Reads as judge-call
+use Rattle.sayfudhoum.proofs.exports.sayfudhoum_judge.Reads as judge_call
 
 -- a file, and the bytes of a model beside it
 module _ (bytes model : List ℕ) where
@@ -96,7 +96,7 @@ judged_as : (file handed : List ℕ) (n m : ℕ) → n ≡ m → Judges file han
 judged_as file handed n m p j = rw p j
 
 -- a call of `sayfudhoum_judge` on a file and a model
-module _ (c : Call judge-call.Learnt) where
+module _ (c : Call judge_call.Learnt) where
   abbrev file : List ℕ
   file = c.given.0.now
 

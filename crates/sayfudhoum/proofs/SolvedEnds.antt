@@ -52,7 +52,7 @@ use Rattle.sayfudhoum.specs.Numbers.{as_number, solved_number}
 use Rattle.sayfudhoum.proofs.PlaceLaws.{lines_place, place_told}
 use Rattle.sayfudhoum.proofs.EndToEnd.{IsImpossible, IsPossible, impossible_file, none_file, question_accepted, not_both}
 use Rattle.sayfudhoum.proofs.Exactness.{Tells}
-use Rattle.sayfudhoum.proofs.exports.sayfudhoum_solved.Reads as solved-call
+use Rattle.sayfudhoum.proofs.exports.sayfudhoum_solved.Reads as solved_call
 
 -- how many variables the clauses of a file's question have
 abbrev pub variables_in : List ℕ → ℕ
@@ -189,7 +189,7 @@ module _ (bytes lines old : List ℕ) where
           subst (λ y. Takes bytes lines old (as_number y) (file_solved_over bytes lines old)) (sym k.0) (file_refused r p (place_told r (omega (arith, small))) k.1)
 
 -- a call of `sayfudhoum_solved` on a file and a solver's lines, with a buffer
-module _ (c : Call solved-call.Learnt) where
+module _ (c : Call solved_call.Learnt) where
   abbrev file : List ℕ
   file = c.given.0.now
 

@@ -40,7 +40,7 @@ use Rattle.lines.proofs.SentenceLaws.{unsatisfiable_reads, model_reads}
 use Rattle.sayfudhoum.proofs.PlaceLaws.{place_told}
 use Rattle.sayfudhoum.proofs.EndToEnd.{question_accepted, refused_accepted}
 use Rattle.sayfudhoum.proofs.Exactness.{Tells, tells_one, file_tells}
-use Rattle.sayfudhoum.proofs.exports.sayfudhoum_solved.Reads as solved-call
+use Rattle.sayfudhoum.proofs.exports.sayfudhoum_solved.Reads as solved_call
 use Rattle.lines.proofs.FormLaws.{bad_exactly}
 use Rattle.sayfudhoum.proofs.SolvedEnds.{variables_in, IsSaid, IsGood, Fails, Takes, file_refused, unformed_lines, unsatisfiable, model_failing, too_short, answered, said_good, solved_ends, Counts, solved_answer_bytes}
 
@@ -78,7 +78,7 @@ module _ (bytes lines : List ℕ) where
       subst (λ x. length (file_of (some x)) ≤ longest_answer) (sym s.model) size
 
 -- a call of `sayfudhoum_solved` on a file and a solver's lines, with a buffer
-module _ (c : Call solved-call.Learnt) where
+module _ (c : Call solved_call.Learnt) where
   abbrev file : List ℕ
   file = c.given.0.now
 

@@ -31,7 +31,7 @@ pub extern "C" fn sayfudhoum_clash(
     answer: &mut [u8],
 ) -> u64
     ensures value { result ≡ clash_number question.now (three part.old indexes.old answer.old) }
-    ensures answer_after { three part.new indexes.new answer.new ≡ clash_over question.now (three part.old indexes.old answer.old) }
+    ensures buffers { three part.new indexes.new answer.new ≡ clash_over question.now (three part.old indexes.old answer.old) }
 {
     sayfudhoum::sayfudhoum_clash(question, part, indexes, answer)
 }

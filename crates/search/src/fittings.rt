@@ -15,7 +15,7 @@ fn part_fits(entries: &[u64], memo: &mut [u8], fixed: Fixed, group: u32, ahead: 
     requires ready { Ready entries.now fixed memo.old ahead }
     requires group_lt_group_count { group < group_count }
     ensures no_part { result ≡ false → NoPart entries.now fixed ahead.term group (all_terms ahead) }
-    ensures memo { Memo entries.now fixed.sets memo.new }
+    ensures memo_after { Memo entries.now fixed.sets memo.new }
 {
     let term = ahead.term;
     let left = ahead.left;
@@ -47,9 +47,9 @@ pub(crate) fn all_fit(
 ) -> bool
     requires ready { Ready entries.now fixed memo.old ahead }
     requires are_groups { AreGroups groups }
-    requires count_le_term { (groups.count ≤ ahead.term) × (all_terms unplaced ≡ all_terms ahead) }
+    requires few_groups { (groups.count ≤ ahead.term) × (all_terms unplaced ≡ all_terms ahead) }
     ensures nothing_fits { result ≡ false → NothingFits entries.now fixed ahead.term groups (all_terms ahead) }
-    ensures memo { Memo entries.now fixed.sets memo.new }
+    ensures memo_after { Memo entries.now fixed.sets memo.new }
 {
     let term = ahead.term;
     let left = ahead.left;

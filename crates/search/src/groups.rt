@@ -73,7 +73,7 @@ pub(crate) fn with_group(groups: Groups, term: usize) -> Groups
 pub(crate) fn groups_of(arrangement: [u8; Question::MAX_TERMS], terms: usize) -> Groups
     requires { (terms ≤ max_terms) × ((t : ℕ) → t < terms → get_or arrangement t 0 < max_terms) }
     ensures groups_of { GroupsOf arrangement terms result.terms }
-    ensures count_value { result.count ≡ classes (take terms arrangement) }
+    ensures count { result.count ≡ classes (take terms arrangement) }
 {
     let none: [u32; Question::MAX_TERMS] = [0; Question::MAX_TERMS];
     let mut groups = Groups {

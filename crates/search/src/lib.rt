@@ -12,11 +12,11 @@
 // 3. Placing: found(p) is the first of found(p, 0), .., found(p, n); the next term goes into each class and into a new one:
 //    behind_step (cut/proofs/BehindLaws.antt).
 // 4. Cutting: found(p) = none where the terms still to be placed don't fit into G₀ .. Gₙ₋₁ and new groups:
-//    none-found (cut/proofs/StandingLaws.antt). They are tried in this order:
+//    none_found (cut/proofs/StandingLaws.antt). They are tried in this order:
 //    a. A term t of A makes one of Gₖ ∪ {t}, each k, or a new group {t}: tried_stuck, tried_new (cut/proofs/TriedLaws.antt).
 //    b. Of these G is left out if mask(G ∪ B) = none for each B of terms of A still ahead, for then G is a part of no class:
 //       none_part (cut/proofs/PartLaws.antt), neither, tried_lacks, tried_alone (cut/proofs/TriedLaws.antt).
-//    c. All of A is in groups: nothing fits if mask(Gₖ) = none for some k: part-cut (cut/proofs/PartLaws.antt).
+//    c. All of A is in groups: nothing fits if mask(Gₖ) = none for some k: part_cut (cut/proofs/PartLaws.antt).
 //    d. A term t of the rest is passed over if it has mask({t}), for then it is in nobody's way; else it makes one of Gₖ ∪ {t},
 //       each k with a mask: tried_stuck, tried_lacks, tried_alone (cut/proofs/TriedLaws.antt).
 // 5. The end: where all terms are placed, the class k has mask(Gₖ): mask_whole (cut/proofs/WholeLaws.antt). These masks are

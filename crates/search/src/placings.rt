@@ -31,7 +31,7 @@ pub(crate) fn place(
     requires groups_of { GroupsOf arrangement unplaced.term groups.terms }
     requires declared { T (all_rows (row_declared (all_terms unplaced) fixed.sets) (rows_of_entries entries.now)) }
     ensures value { result ≡ answer_of (found entries.now fixed.sets arrangement unplaced.term unplaced.left) }
-    ensures memo { Memo entries.now fixed.sets memo.new }
+    ensures memo_after { Memo entries.now fixed.sets memo.new }
 {
     let placed = unplaced.term;
     let left = unplaced.left;

@@ -13,7 +13,7 @@ use crate::steps::{Fixed, Span};
 
 // Has each of the groups a mask.
 fn each_has_mask(entries: &[u64], memo: &mut [u8], groups: Groups, sets: u8) -> bool
-    requires sets_le_max_sets { (sets ≤ max_sets) × (groups.count ≤ max_terms) }
+    requires few { (sets ≤ max_sets) × (groups.count ≤ max_terms) }
     requires memo { Memo entries.now sets memo.old }
     requires are_groups { AreGroups groups }
     ensures some_lacks { result ≡ false → SomeLacks entries.now sets groups }
@@ -37,7 +37,7 @@ fn needs_a_group(entries: &[u64], memo: &mut [u8], fixed: Fixed, own: u32) -> bo
     requires sets_le_max_sets { fixed.sets ≤ max_sets }
     requires memo { Memo entries.now fixed.sets memo.old }
     requires own_lt_group_count { own < group_count }
-    ensures own_value { result ≡ true → mask_of_group entries.now fixed.sets own ≡ none }
+    ensures own_has_none { result ≡ true → mask_of_group entries.now fixed.sets own ≡ none }
     ensures memo_after { Memo entries.now fixed.sets memo.new }
 {
     if fixed.asked & own != 0 {
@@ -52,7 +52,7 @@ fn rest_fits(entries: &[u64], memo: &mut [u8], fixed: Fixed, groups: Groups, ahe
     requires are_groups { AreGroups groups }
     requires count_le_max_terms { groups.count ≤ max_terms }
     ensures nothing_fits { result ≡ false → NothingFits entries.now fixed (all_terms ahead) groups (all_terms ahead) }
-    ensures memo { Memo entries.now fixed.sets memo.new }
+    ensures memo_after { Memo entries.now fixed.sets memo.new }
 {
     let term = ahead.term;
     let left = ahead.left;
@@ -95,7 +95,7 @@ pub(crate) fn settled_fits(
     requires are_groups { AreGroups groups }
     requires count_le_max_terms { groups.count ≤ max_terms }
     ensures nothing_fits { result ≡ false → NothingFits entries.now fixed (all_terms unplaced) groups (all_terms unplaced) }
-    ensures memo { Memo entries.now fixed.sets memo.new }
+    ensures memo_after { Memo entries.now fixed.sets memo.new }
 {
     if !each_has_mask(entries, memo, groups, fixed.sets) {
         return false;

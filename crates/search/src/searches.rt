@@ -31,7 +31,7 @@ const GROUPS: usize = 1 << Question::MAX_TERMS;
 
 // Entries of declared rows: at first no term is placed, and the memo says nothing.
 fn search_entries(entries: &[u64], terms: usize, sets: u8) -> SearchAnswer
-    requires terms_le_max_terms { (terms ≤ max_terms) × (sets ≤ max_sets) }
+    requires few { (terms ≤ max_terms) × (sets ≤ max_sets) }
     requires declared { T (all_rows (row_declared terms sets) (rows_of_entries entries.now)) }
     ensures { result ≡ answer_of (first_model fits terms (2 ^ sets) (rows_of_entries entries.now)) }
 {
@@ -61,9 +61,9 @@ fn search_renamed(
     terms: usize,
     sets: u8,
 ) -> SearchAnswer
-    requires rows_value { rows_checked terms sets rows.now ≡ Accepted }
+    requires rows_accepted { rows_checked terms sets rows.now ≡ Accepted }
     requires rows_in_bounds { length rows.now ≤ length table.old }
-    requires by_index { (x : ℕ) → x < sets → new_name to x < sets }
+    requires names_below { (x : ℕ) → x < sets → new_name to x < sets }
     ensures value { result ≡ answer_of (first_model fits terms (2 ^ sets) (map (renamed_row (new_name to)) (map row_of rows.now))) }
     ensures table_len_unchanged { length table.new ≡ length table.old }
 {
@@ -79,7 +79,7 @@ fn model_again(
     terms: usize,
     sets: u8,
 ) -> SearchAnswer
-    requires rows_value { rows_checked terms sets rows.now ≡ Accepted }
+    requires rows_accepted { rows_checked terms sets rows.now ≡ Accepted }
     requires rows_in_bounds { length rows.now ≤ length table.old }
     requires placing { Placing arrangement terms (classes (take terms arrangement)) }
     ensures { result ≡ answer_of (model_of fits (2 ^ sets) (map row_of rows.now) (take terms arrangement)) }

@@ -17,18 +17,18 @@ use Rattle.theory.proofs.FirstModelLaws.{first_model_first, first_model_none}
 abbrev pub SolvedToo : {Test : Type 0} → (ℕ → (ℕ → Bool) → Test → Bool) → ℕ → ℕ → List (Row Test) → List (Row Test) → Type 0
 SolvedToo fits terms bound rows others = (sol : Solution) → IsSolution fits terms bound rows sol → (ms : List ℕ) × IsSolution fits terms bound others (with_masks sol.arrangement ms)
 
-module _ {Test : Type 0} (fits : ℕ → (ℕ → Bool) → Test → Bool) (terms bound : ℕ) (rows others : List (Row Test)) (below : TermsBelow terms rows) (others_Below : TermsBelow terms others)
+module _ {Test : Type 0} (fits : ℕ → (ℕ → Bool) → Test → Bool) (terms bound : ℕ) (rows others : List (Row Test)) (below : TermsBelow terms rows) (others_below : TermsBelow terms others)
     (to : SolvedToo fits terms bound rows others) (from : SolvedToo fits terms bound others rows) where
   -- the others have none
   pub none_either : first_model fits terms bound others ≡ none → first_model fits terms bound rows ≡ none
-  none_either e = (first_model_none fits terms bound rows below).1 (λ sol s. (first_model_none fits terms bound others others_Below).0 e (with_masks sol.arrangement (to sol s).0) (to sol s).1)
+  none_either e = (first_model_none fits terms bound rows below).1 (λ sol s. (first_model_none fits terms bound others others_below).0 e (with_masks sol.arrangement (to sol s).0) (to sol s).1)
 
   -- the others have one: here it is the model of that arrangement
   pub same_arrangement : (sol : Solution) → first_model fits terms bound others ≡ some sol → first_model fits terms bound rows ≡ model_of fits bound rows sol.arrangement
   same_arrangement sol e = go (first_model fits terms bound rows) refl
     where
       their : IsFirstModel fits terms bound others sol
-      their = (first_model_first fits terms bound others others_Below sol).0 e
+      their = (first_model_first fits terms bound others others_below sol).0 e
 
       ours : IsSolution fits terms bound rows (with_masks sol.arrangement (from sol their.solution).0)
       ours = (from sol their.solution).1

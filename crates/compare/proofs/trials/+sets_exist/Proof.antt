@@ -2,7 +2,7 @@
 use Rattle.std.proofs.Common.{ℕ, ◌-◌, ◌<◌, ◌≤◌, rules}
 use borrow.Fn.Kinds.{In}
 use borrow.Fn.PlainCycle.{Measures, is, falls, and}
-use Rattle.compare.proofs.assignments.hold_so_far.Reads as hold-so-far
+use Rattle.compare.proofs.assignments.hold_so_far.Reads as hold_so_far
 use Rattle.compare.proofs.assignments.with_part.Reads as with_part
 use Rattle.compare.proofs.trials.sets_exist.Reads as sets-exist
 use Rattle.compare.proofs.trials.sets_exist.Kinds as kinds
@@ -24,8 +24,8 @@ here t = and 0 kinds.ps (is 0 kinds.ps μ_sets_exist t) sets-exist.Pre
 
 abbrev claims : ℕ → lts.Claims
 claims t = (
-  hold-so-far.Asked,
-  hold-so-far.Learnt,
+  hold_so_far.Asked,
+  hold_so_far.Learnt,
   with_part.Asked,
   with_part.Learnt,
   and 0 kinds.ps (falls 0 kinds.ps ◌<◌ μ_sets_exist t) sets-exist.Pre,

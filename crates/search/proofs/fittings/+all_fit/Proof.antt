@@ -24,12 +24,12 @@ use Rattle.search.specs.Steps.{all_terms, Ready}
 use Rattle.search.specs.Fittings.{NoPart, NothingFits}
 use Rattle.search.proofs.StepLaws.{some_left as a_term_left, room as one_of_twelve, as_many, behind_first, ready_next, ready_same}
 use Rattle.search.proofs.FitLaws.{alone_small, joined_small, joined_count, groups_joined, groups_new, fits_past, fits_joined}
-use Rattle.search.proofs.groups.has_term.Reads as has-term
-use Rattle.search.proofs.groups.term_alone.Reads as term-alone
+use Rattle.search.proofs.groups.has_term.Reads as has_term
+use Rattle.search.proofs.groups.term_alone.Reads as term_alone
 use Rattle.search.proofs.groups.with_group.Reads as with-group
 use Rattle.search.proofs.groups.with_term.Reads as with-term
-use Rattle.search.proofs.fittings.part_fits.Reads as part-fits
-use Rattle.search.proofs.rest_fittings.settled_fits.Reads as settled-fits
+use Rattle.search.proofs.fittings.part_fits.Reads as part_fits
+use Rattle.search.proofs.rest_fittings.settled_fits.Reads as settled_fits
 use Rattle.search.proofs.fittings.all_fit.Reads as all-fit
 use Rattle.search.proofs.fittings.all_fit.Kinds as kinds
 use Rattle.search.proofs.fittings.+all_fit.Lts-all_fit as lts
@@ -54,16 +54,16 @@ module _ (t : ℕ) where
 
   abbrev claims : lts.Claims
   claims = (
-    settled-fits.Asked,
-    settled-fits.Learnt,
-    has-term.Asked,
-    has-term.Learnt,
+    settled_fits.Asked,
+    settled_fits.Learnt,
+    has_term.Asked,
+    has_term.Learnt,
     and 2 kinds.ps (falls 2 kinds.ps ◌<◌ μ_all_fit t) all-fit.Pre,
     all-fit.Post,
-    term-alone.Asked,
-    term-alone.Learnt,
-    part-fits.Asked,
-    part-fits.Learnt,
+    term_alone.Asked,
+    term_alone.Learnt,
+    part_fits.Asked,
+    part_fits.Learnt,
     with-term.Asked,
     with-term.Learnt,
     with-group.Asked,

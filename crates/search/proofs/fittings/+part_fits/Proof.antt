@@ -22,9 +22,9 @@ use Rattle.search.specs.Fittings.{NoPart}
 use Rattle.search.proofs.MemoLaws.{not_there}
 use Rattle.search.proofs.StepLaws.{some_left as a_term_left, room as one_of_twelve, as_many, behind_first, ready_next}
 use Rattle.search.proofs.FitLaws.{joined_small, part_past}
-use Rattle.search.proofs.groups.has_term.Reads as has-term
-use Rattle.search.proofs.groups.term_alone.Reads as term-alone
-use Rattle.search.proofs.memos.has_mask.Reads as has-mask
+use Rattle.search.proofs.groups.has_term.Reads as has_term
+use Rattle.search.proofs.groups.term_alone.Reads as term_alone
+use Rattle.search.proofs.memos.has_mask.Reads as has_mask
 use Rattle.search.proofs.fittings.part_fits.Reads as part-fits
 use Rattle.search.proofs.fittings.part_fits.Kinds as kinds
 use Rattle.search.proofs.fittings.+part_fits.Lts-part_fits as lts
@@ -42,14 +42,14 @@ module _ (t : ℕ) where
 
   abbrev claims : lts.Claims
   claims = (
-    has-mask.Asked,
-    has-mask.Learnt,
+    has_mask.Asked,
+    has_mask.Learnt,
     and 2 kinds.ps (falls 2 kinds.ps ◌<◌ μ_part_fits t) part-fits.Pre,
     part-fits.Post,
-    has-term.Asked,
-    has-term.Learnt,
-    term-alone.Asked,
-    term-alone.Learnt,
+    has_term.Asked,
+    has_term.Learnt,
+    term_alone.Asked,
+    term_alone.Learnt,
   )
 
   -- no term is left: the group alone decides

@@ -20,10 +20,10 @@ use Rattle.search.proofs.PlacingLaws.{placing_next}
 use Rattle.search.proofs.GroupLaws.{group_below, groups_next}
 use Rattle.search.proofs.FitLaws.{unfit_cut}
 use Rattle.search.proofs.StepLaws.{some_left, room, as_many, fewer, ready_next, none_left, found_in, Before, answer_none, answer_whole, before_first, answer_next, class_hit, class_miss, class_end}
-use Rattle.search.proofs.answers.is_possible.Reads as is-possible
-use Rattle.search.proofs.answers.without_model.Reads as without-model
+use Rattle.search.proofs.answers.is_possible.Reads as is_possible
+use Rattle.search.proofs.answers.without_model.Reads as without_model
 use Rattle.search.proofs.fittings.all_fit.Reads as all_fit
-use Rattle.search.proofs.groups.with_term.Reads as with-term
+use Rattle.search.proofs.groups.with_term.Reads as with_term
 use Rattle.search.proofs.models.model.Reads as model
 use Rattle.search.proofs.placings.place.Reads as place
 use Rattle.search.proofs.placings.place.Kinds as kinds
@@ -50,16 +50,16 @@ module _ (t : ℕ) where
   claims = (
     all_fit.Asked,
     all_fit.Learnt,
-    without-model.Asked,
-    without-model.Learnt,
+    without_model.Asked,
+    without_model.Learnt,
     model.Asked,
     model.Learnt,
-    with-term.Asked,
-    with-term.Learnt,
+    with_term.Asked,
+    with_term.Learnt,
     and 2 kinds.ps (falls 2 kinds.ps ◌<◌ μ_place t) place.Pre,
     place.Post,
-    is-possible.Asked,
-    is-possible.Learnt,
+    is_possible.Asked,
+    is_possible.Learnt,
   )
 
   all-fit-requires : lts.Need-all_fit-requires claims here place.Post invariant-loop decreases-loop

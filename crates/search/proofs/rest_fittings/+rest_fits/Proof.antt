@@ -25,10 +25,10 @@ use Rattle.search.specs.Fittings.{NothingFits}
 use Rattle.search.proofs.MemoLaws.{not_there}
 use Rattle.search.proofs.StepLaws.{some_left as a_term_left, room as one_of_twelve, as_many, behind_first, ready_next}
 use Rattle.search.proofs.FitLaws.{alone_small, joined_small, joined_count, groups_joined, fits_joined}
-use Rattle.search.proofs.groups.term_alone.Reads as term-alone
+use Rattle.search.proofs.groups.term_alone.Reads as term_alone
 use Rattle.search.proofs.groups.with_term.Reads as with-term
-use Rattle.search.proofs.memos.has_mask.Reads as has-mask
-use Rattle.search.proofs.rest_fittings.needs_a_group.Reads as needs-a-group
+use Rattle.search.proofs.memos.has_mask.Reads as has_mask
+use Rattle.search.proofs.rest_fittings.needs_a_group.Reads as needs_a_group
 use Rattle.search.proofs.rest_fittings.rest_fits.Reads as rest-fits
 use Rattle.search.proofs.rest_fittings.rest_fits.Kinds as kinds
 use Rattle.search.proofs.rest_fittings.+rest_fits.Lts-rest_fits as lts
@@ -53,14 +53,14 @@ module _ (t : ℕ) where
 
   abbrev claims : lts.Claims
   claims = (
-    term-alone.Asked,
-    term-alone.Learnt,
-    needs-a-group.Asked,
-    needs-a-group.Learnt,
+    term_alone.Asked,
+    term_alone.Learnt,
+    needs_a_group.Asked,
+    needs_a_group.Learnt,
     and 2 kinds.ps (falls 2 kinds.ps ◌<◌ μ_rest_fits t) rest-fits.Pre,
     rest-fits.Post,
-    has-mask.Asked,
-    has-mask.Learnt,
+    has_mask.Asked,
+    has_mask.Learnt,
     with-term.Asked,
     with-term.Learnt,
   )
