@@ -29,22 +29,10 @@ room c =
     let a = c.args in
     omega (arith, within AnswerFile (Only 0x7f) 0 a.bytes.now a.at _ _ (sound c))
 
-returns : tie.Need-returns-then-end-bytes
-returns c =
-    let k = c in
-    let a = k.args in
-    c.refuse-then-end-bytes.ensures ∙ sym (end_extra a.bytes.now a.at a.a _ _ (sound k.before.before) c.if-end-bytes.true)
-
 returns-2 : tie.Need-returns-in-Refused
 returns-2 c =
     let a = c.args in
     c.refuse.ensures ∙ sym (end_refused a.bytes.now a.at a.a _ (refused c.before))
-
-returns-3 : tie.Need-returns-else-end-bytes
-returns-3 c =
-    let k = c in
-    let a = k.args in
-    sym (end_whole a.bytes.now a.at a.a _ _ (sound k.before) c.if-end-bytes.false)
 
 pub read_end_spec : {M : Type 1} → statement M
 read_end_spec =
@@ -57,6 +45,12 @@ read_end_spec =
     (λ c. omega (arith, room c))
     (λ c. omega (arith, room c))
     (λ c κs. search rules)
-    returns
+    (λ c.
+    let k = c in
+    let a = k.args in
+    cc (end_extra a.bytes.now a.at a.a c.in-Sound.field-0 c.in-Sound.n (sound k.before.before) (omega arith)))
     returns-2
-    returns-3)
+    (λ c.
+    let k = c in
+    let a = k.args in
+    sym (end_whole a.bytes.now a.at a.a c.in-Sound.field-0 c.in-Sound.n (sound k.before) (omega arith))))

@@ -10,25 +10,17 @@ use Rattle.clash.proofs.ThreeLaws.{three_same, refused_short, three_short, three
 use Rattle.clash.proofs.files.put_three.Statement.{statement}
 use Rattle.clash.proofs.files.put_three.Tie as tie
 
-returns : tie.Need-returns-then-indexes-old
-returns c =
-    let a = c.args in
-    let new = three (question_bytes a.found) a.old.now a.said.now in
-    let old = three a.part.now a.indexes.now a.answer.now in
-    let kept = three_short new old (short_two new old c.if-indexes-old.true) in
-    (ap Refused c.new.ensures ∙ sym kept.0, sym kept.1)
-
 put-bytes-requires : tie.Need-put_bytes-requires
 put-bytes-requires c κs =
     let f = c in
     let a = f.args in
-    (two_fit (three (question_bytes a.found) a.old.now a.said.now) (three a.part.now a.indexes.now a.answer.now) f.if-indexes-old.false).0
+    (two_fit (three (question_bytes a.found) a.old.now a.said.now) (three a.part.now a.indexes.now a.answer.now) (search rules)).0
 
 put-bytes-requires-2 : tie.Need-put_bytes-requires-in-Count
 put-bytes-requires-2 c κs =
     let f = c in
     let a = f.args in
-    (two_fit (three (question_bytes a.found) a.old.now a.said.now) (three a.part.now a.indexes.now a.answer.now) f.if-indexes-old.false).1
+    (two_fit (three (question_bytes a.found) a.old.now a.said.now) (three a.part.now a.indexes.now a.answer.now) (search rules)).1
 
 returns-2 : tie.Need-returns-in-Refused
 returns-2 c =
@@ -49,7 +41,7 @@ returns-3 c =
     let new = three (question_bytes a.found) a.old.now a.said.now in
     let old = three a.part.now a.indexes.now a.answer.now in
     let told = written_writable a.found (length a.part.now) _ (sym w.write_question.ensures.0 ∙ c.in-Count.is) in
-    let done = three_fit new old (none_short new old w.if-indexes-old.false told.0.1) in (
+    let done = three_fit new old (none_short new old (search rules) told.0.1) in (
       ap (λ n. Counts n (length a.old.now) (length a.said.now)) told.1 ∙ sym done.0,
       three_same (w.write_question.ensures.1 ∙ written_over_lem a.found a.part.now told.0) c.put_bytes.ensures c.put_bytes-in-Count.ensures ∙ sym done.1,
     )
@@ -59,7 +51,12 @@ put_three_spec =
     tie.close
     (tie.spec
     (λ c κs. search rules)
-    returns
+    (λ c.
+    let a = c.args in
+    let new = three (question_bytes a.found) a.old.now a.said.now in
+    let old = three a.part.now a.indexes.now a.answer.now in
+    let kept = three_short new old (short_two new old (search rules)) in
+    (ap Refused c.new.ensures ∙ sym kept.0, sym kept.1))
     (λ c κs. search rules)
     (λ c. search rules)
     (λ c. search rules)

@@ -28,10 +28,6 @@ loop-holds c =
     let long : length a.q.table ≡ 64 = search table_long in
     subst (λ p. Turn a.q p (padded max_statements []) 0 a.start.from a.start.bound a.start.left) (sym c.drop_statements-part.ensures) (turn_starts a.q a.start c.requires.0 c.requires.1 long)
 
--- a statement is kept
-loop-again : tie.Need-loop-i-preserved-then-bound-i invariant-loop decreases-loop
-loop-again c = turn_keeps c.loop-i.invariant c.loop-i-test.true c.if-bound-i.true
-
 -- what remains without a run is impossible exactly if the test says so
 tested : (c : tie.After-is_impossible invariant-loop decreases-loop) → let r = c in let l = r in
     is_none (answer (dropped l.loop-i.part l.loop-i.kept r.run_length-n.result)) ≡ c.is_impossible.result
@@ -40,7 +36,7 @@ tested c =
     let e = r in
     let l = e in
     let n = r.run_length-n in
-    search_none _ (turn_accepted l.loop-i.invariant e.loop-i-test.true e.if-bound-i.false n.result n.ensures.0 n.ensures.1 n.ensures.2) ∙ ap without_model (sym r.drop_statements-rest.ensures) ∙ sym c.is_impossible.ensures
+    search_none _ (turn_accepted l.loop-i.invariant e.loop-i-test.true (λ x. omega arith) n.result n.ensures.0 n.ensures.1 n.ensures.2) ∙ ap without_model (sym r.drop_statements-rest.ensures) ∙ sym c.is_impossible.ensures
 
 -- a run is dropped
 loop-again-2 : tie.Need-loop-i-preserved-then-is_impossible invariant-loop decreases-loop
@@ -51,7 +47,7 @@ loop-again-2 c =
     let n = r.run_length-n in
     let q = l.args.q in
     subst (λ p. Turn q p l.loop-i.indexes l.loop-i.kept (l.loop-i.i + n.result) l.loop-i.bound (l.loop-i.left - 1)) (sym r.drop_statements-rest.ensures)
-    (turn_drops l.loop-i.invariant e.loop-i-test.true e.if-bound-i.false n.result n.ensures.0 n.ensures.1 n.ensures.2 (tested c.before ∙ c.if-is_impossible.true))
+    (turn_drops l.loop-i.invariant e.loop-i-test.true (λ x. omega arith) n.result n.ensures.0 n.ensures.1 n.ensures.2 (tested c.before ∙ c.if-is_impossible.true))
 
 -- or it can't be
 loop-again-3 : tie.Need-loop-i-preserved invariant-loop decreases-loop
@@ -60,7 +56,7 @@ loop-again-3 c =
     let e = r in
     let l = e in
     let n = r.run_length-n in
-    turn_bounds l.loop-i.invariant e.loop-i-test.true e.if-bound-i.false n.result n.ensures.0 n.ensures.1 n.ensures.2 n.ensures.3 (tested c.before ∙ c.if-is_impossible.false)
+    turn_bounds l.loop-i.invariant e.loop-i-test.true (λ x. omega arith) n.result n.ensures.0 n.ensures.1 n.ensures.2 n.ensures.3 (tested c.before ∙ c.if-is_impossible.false)
 
 returns : tie.Need-returns invariant-loop decreases-loop
 returns c = let e = turn_ends c.loop-i.invariant c.loop-i-test.false in ap₂ (λ p x. record { part = p; indexes = x }) e.0 e.1
@@ -79,10 +75,10 @@ walk_spec =
     (λ c. let t = c.loop-i.invariant in omega (arith, t.walked.few, t.few_stated, c.loop-i-test.true))
     (λ c. let t = c.loop-i.invariant in omega (arith, t.before_bound, t.bounded))
     (λ c. let t = c.loop-i.invariant in omega (arith, t.before_bound, t.bounded, t.few_stated, c.loop-i-test.true))
-    loop-again
-    (λ c κs. turn_asks c.loop-i.invariant c.loop-i-test.true c.if-bound-i.false)
+    (λ c. turn_keeps c.loop-i.invariant c.loop-i-test.true (omega arith))
+    (λ c κs. turn_asks c.loop-i.invariant c.loop-i-test.true (λ x. omega arith))
     (λ c κs. search rules)
-    (λ c. let e = c in turn_has e.loop-i.invariant e.loop-i-test.true e.if-bound-i.false)
+    (λ c. let e = c in turn_has e.loop-i.invariant e.loop-i-test.true (λ x. omega arith))
     (λ c κs. search rules)
     (λ c. let r = c in omega (arith, r.loop-i.invariant.few_stated, r.run_length-n.ensures.2))
     (λ c. let r = c in omega (arith, r.loop-i.invariant.few_stated, r.run_length-n.ensures.2))

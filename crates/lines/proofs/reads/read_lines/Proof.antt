@@ -22,28 +22,21 @@ decreases-loop lines most at₀ r₀ at r = length lines - at
 abbrev left : List ℕ → ℕ → List ℕ
 left lines at = take (length lines - at) (drop at lines)
 
--- no 0A is left
-returns : tie.Need-returns-then-n-rest invariant-loop decreases-loop
-returns c =
-    let a = c.args in
-    let l = c.loop-at in
-    c.bad_at.ensures ∙ sym (l.invariant.1 ∙ walk_stops a.most l.at l.r a.lines.now (left a.lines.now l.at) refl c.piece_length-n.result c.piece_length-n.ensures c.loop-at-test.true c.if-n-rest.true)
-
 -- a 0A stands behind the line
-behind : (c : tie.Else-n-rest invariant-loop decreases-loop) →
+behind : (c : tie.After-piece_length-n invariant-loop decreases-loop) → (c.piece_length-n.result ≡ length (left c.args.lines.now c.loop-at.at) → ⊥) →
     let l = c.loop-at in
     let lines = c.args.lines.now in
     let n = c.piece_length-n.result in
     (n < length (left lines l.at)) × (l.at + n < length lines)
-behind c =
+behind c more =
     let l = c.loop-at in
     let lines = c.args.lines.now in
     let n = c.piece_length-n.result in
-    let less : n < length (left lines l.at) = omega (arith, c.piece_length-n.ensures, until_within line_end (left lines l.at), c.if-n-rest.false) in
+    let less : n < length (left lines l.at) = omega (arith, c.piece_length-n.ensures, until_within line_end (left lines l.at), more) in
     (less, omega (arith, length-take (length lines - l.at) (drop l.at lines), length-drop l.at lines))
 
 slice_aggregate_line_step : tie.Need-slice_bounds-line_step-end invariant-loop decreases-loop
-slice_aggregate_line_step c = omega (arith, length-take c.piece_length-n.result (left c.args.lines.now c.loop-at.at), (behind c).0)
+slice_aggregate_line_step c = omega (arith, length-take c.piece_length-n.result (left c.args.lines.now c.loop-at.at), (behind c.before (λ e. omega arith)).0)
 
 -- what the line leads to
 goes : (c : tie.After-line_step-r invariant-loop decreases-loop) →
@@ -57,14 +50,14 @@ goes c =
     let p = c in
     let n = p.piece_length-n.result in
     l.invariant.1
-    ∙ walk_goes a.most l.at l.r a.lines.now (left a.lines.now l.at) refl n p.piece_length-n.ensures (behind c.before).0
+    ∙ walk_goes a.most l.at l.r a.lines.now (left a.lines.now l.at) refl n p.piece_length-n.ensures (behind c.before.before (λ e. omega arith)).0
     ∙ ap (λ x. stood_then l.at x (lines_from a.most (l.at + n + 1) x (pieces line_end (drop (l.at + n + 1) a.lines.now)))) (sym c.line_step-r.ensures)
 
 returns-2 : tie.Need-returns-then-not-can_stand invariant-loop decreases-loop
 returns-2 c = c.bad_at-then-not-can_stand.ensures ∙ sym (goes c.before.before.before ∙ fell c.loop-at.at c.line_step-r.result _ (sym c.can_stand.ensures ∙ c.if-not-can_stand.true))
 
 loop-again : tie.Need-loop-at-preserved invariant-loop decreases-loop
-loop-again c = (omega (arith, (behind c.before.before.before).1), goes c.before.before ∙ stood c.loop-at.at c.line_step-r.result _ (sym c.can_stand.ensures ∙ c.if-not-can_stand.false))
+loop-again c = (omega (arith, (behind c.before.before.before.before (λ e. omega arith)).1), goes c.before.before ∙ stood c.loop-at.at c.line_step-r.result _ (sym c.can_stand.ensures ∙ c.if-not-can_stand.false))
 
 returns-3 : tie.Need-returns invariant-loop decreases-loop
 returns-3 c =
@@ -85,15 +78,18 @@ read_lines_spec =
     (λ c. search rules)
     (λ c κs. search rules)
     (λ c κs. search rules)
-    returns
+    (λ c.
+    let a = c.args in
+    let l = c.loop-at in
+    c.bad_at.ensures ∙ sym (l.invariant.1 ∙ walk_stops a.most l.at l.r a.lines.now (left a.lines.now l.at) refl c.piece_length-n.result c.piece_length-n.ensures c.loop-at-test.true (omega arith)))
     slice_aggregate_line_step
     (λ c κs. search rules)
-    (λ c. omega (arith, (behind c.before).1))
-    (λ c. omega (arith, (behind c.before).1))
+    (λ c. omega (arith, (behind c.before.before (λ e. omega arith)).1))
+    (λ c. omega (arith, (behind c.before.before (λ e. omega arith)).1))
     (λ c κs. search rules)
     (λ c κs. search rules)
     returns-2
-    (λ c. omega (arith, (behind c.before.before.before).1))
+    (λ c. omega (arith, (behind c.before.before.before.before (λ e. omega arith)).1))
     loop-again
     (λ c κs. search rules)
     returns-3)

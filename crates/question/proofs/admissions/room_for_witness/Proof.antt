@@ -1,6 +1,7 @@
 -- `room_for_witness` refuses exactly a witness that is one too many: each return rewrites with the tests that led there.
 use Prim.Native.Nat.{◌+◌}
 use mathlib.Core.Path.{sym, ◌∙◌}
+use mathlib.Core.Path.{◌≡◌}
 use native.Mathlib.Omega.{arith}
 use borrow.Author.Rules.{rules}
 use borrow.Author.Tests.{eq-eqb, ne_eqb, lt-ltb, le-ltb}
@@ -9,20 +10,17 @@ use Rattle.question.specs.Limits.{max_terms}
 use Rattle.question.proofs.admissions.room_for_witness.Statement.{statement}
 use Rattle.question.proofs.admissions.room_for_witness.Tie as tie
 
-returns : tie.Need-returns-then-terms-ge-MAX_TERMS
-returns c =
-    let a = c.args in
-    let tag = sym c.tag-tag.ensures ∙ c.if-tag-eq33.true in
-    simp (eq-eqb (tag_of a.s) 0x21 tag, lt-ltb max_terms (a.terms + 1) (omega arith))
-
-returns-2 : tie.Need-returns-else-terms-ge-MAX_TERMS
-returns-2 c =
-    let a = c.args in
-    let tag = sym c.tag-tag.ensures ∙ c.if-tag-eq33.true in
-    simp (eq-eqb (tag_of a.s) 0x21 tag, le-ltb max_terms (a.terms + 1) (omega arith))
-
-returns-3 : tie.Need-returns-else-tag-eq33
-returns-3 c = simp (ne_eqb (tag_of c.args.s) 0x21 (λ e. c.if-tag-eq33.false (c.tag-tag.ensures ∙ e)))
-
 pub room_for_witness_spec : {M : Type 1} → statement M
-room_for_witness_spec = tie.close (tie.spec (λ c κs. search rules) returns returns-2 returns-3)
+room_for_witness_spec =
+    tie.close
+    (tie.spec
+    (λ c κs. search rules)
+    (λ c.
+    let a = c.args in
+    let tag : tag_of a.s ≡ 0x21 = omega arith in
+    simp (eq-eqb (tag_of a.s) 0x21 tag, lt-ltb max_terms (a.terms + 1) (omega arith)))
+    (λ c.
+    let a = c.args in
+    let tag : tag_of a.s ≡ 0x21 = omega arith in
+    simp (eq-eqb (tag_of a.s) 0x21 tag, le-ltb max_terms (a.terms + 1) (omega arith)))
+    (λ c. simp (ne_eqb (tag_of c.args.s) 0x21 (λ e. omega arith))))

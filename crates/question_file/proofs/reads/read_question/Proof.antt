@@ -88,18 +88,11 @@ loop-again-2 c =
     rw c.witness_of-total.ensures
     (more_reached _ l.at l.q l.invariant.0 _ _ (step f.before.before.before.before.before _ c.in-Stated.is ∙ put_stated l.at l.q _ _ (accepted c)), kept_more l.q l.total l.invariant.1 _ (has_room c))
 
--- 7F: bytes behind it, or none
-returns-3 : tie.Need-returns-then-place-bytes invariant-loop decreases-loop
-returns-3 c =
-    let f = c in
-    let l = f.loop-elements in
-    c.refuse_file-then-place-bytes.ensures ∙ ap refused_file c.new.ensures ∙ sym (extra_reached _ l.at l.q l.invariant.0 _ (step f.before.before.before.before _ c.in-Ended.is) c.if-place-bytes.true)
-
 returns-4 : tie.Need-returns-in-Ended invariant-loop decreases-loop
 returns-4 c =
     let f = c in
     let l = f.loop-elements in
-    sym (whole_reached _ l.at l.q l.invariant.0 _ (step f.before.before _ c.in-Ended.is) c.if-place-bytes.false)
+    sym (whole_reached c.args.bytes.now l.at l.q l.invariant.0 c.in-Ended.place (step f.before.before _ c.in-Ended.is) (omega arith))
 
 -- a frame that is refused
 returns-5 : tie.Need-returns-in-Refused invariant-loop decreases-loop
@@ -144,7 +137,10 @@ read_question_spec =
     (λ c. search rules)
     (λ c κs. search rules)
     (λ c κs. search rules)
-    returns-3
+    (λ c.
+    let f = c in
+    let l = f.loop-elements in
+    cc (extra_reached c.args.bytes.now l.at l.q l.invariant.0 c.in-Ended.place (step f.before.before.before.before _ c.in-Ended.is) (omega arith)))
     returns-4
     (λ c. search rules)
     (λ c κs. search rules)

@@ -10,17 +10,11 @@ use Rattle.reduction.proofs.TableRows.{many, short, whole}
 use Rattle.reduction.proofs.reducing.write_rows.Statement.{statement}
 use Rattle.reduction.proofs.reducing.write_rows.Tie as tie
 
-returns : tie.Need-returns-then-n-gt-MAX_TERMS
-returns c =
-    let a = c.args in
-    let left = many a.q a.rows.now (omega (arith, c.terms-n.ensures, c.if-n-gt-MAX_TERMS.true)) in
-    (ap Refused c.new.ensures ∙ sym left.0, sym left.1)
-
 returns-2 : tie.Need-returns-then-rows-count
 returns-2 c =
     let t = c in
     let a = t.args in
-    let few : terms_of a.q ≤ max_terms = omega (arith, t.terms-n.ensures, c.if-n-gt-MAX_TERMS.false) in
+    let few : terms_of a.q ≤ max_terms = omega arith in
     let left = short a.q a.rows.now few (omega (arith, c.count_rows-count.ensures, c.if-rows-count.true)) in
     (ap Refused c.new-then-rows-count.ensures ∙ sym left.0, sym left.1)
 
@@ -29,7 +23,7 @@ returns-3 c =
     let n = c in
     let t = n in
     let a = t.args in
-    let few : terms_of a.q ≤ max_terms = omega (arith, t.terms-n.ensures, n.if-n-gt-MAX_TERMS.false) in
+    let few : terms_of a.q ≤ max_terms = omega arith in
     let left = whole a.q a.rows.now few (omega (arith, n.count_rows-count.ensures, c.if-rows-count.false)) in
     (ap Count n.count_rows-count.ensures ∙ sym left.0, c.put_rows.ensures ∙ sym left.1)
 
@@ -39,7 +33,10 @@ write_rows_spec =
     (tie.spec
     (λ c κs. search rules)
     (λ c κs. search rules)
-    returns
+    (λ c.
+    let a = c.args in
+    let left = many a.q a.rows.now (omega arith) in
+    (ap Refused c.new.ensures ∙ sym left.0, sym left.1))
     (λ c κs. search rules)
     (λ c κs. search rules)
     returns-2

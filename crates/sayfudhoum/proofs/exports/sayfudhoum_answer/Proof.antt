@@ -1,22 +1,23 @@
 -- `sayfudhoum_answer` is `answer_file`, with what it answers as a number.
-use mathlib.Core.Path.{sym, ap, subst, ◌∙◌}
+use mathlib.Core.Path.{◌≡◌, sym, ap, subst, ◌∙◌}
 use borrow.Author.Rules.{rules}
+use lib.ListN.{length}
+use Rattle.outcome.specs.declared.writes.Written.{Written}
+use Rattle.sayfudhoum.specs.Files.{answered}
 use Rattle.sayfudhoum.specs.Numbers.{written_number, answer_number, IsShort}
 use Rattle.sayfudhoum.proofs.FileLaws.{answered_short}
 use Rattle.sayfudhoum.proofs.exports.sayfudhoum_answer.Statement.{statement}
 use Rattle.sayfudhoum.proofs.exports.sayfudhoum_answer.Tie as tie
 
-returns : tie.Need-returns
-unfolding answer_number
-returns c =
-    let w = c.answer_file-written.ensures in
-    (c.written_number.ensures ∙ ap written_number w.0, w.1)
+short_as : (w v : Written) → w ≡ v → IsShort v → IsShort w
+short_as w v e s = subst IsShort (sym e) s
 
 pub sayfudhoum_answer_spec : {M : Type 1} → statement M
+unfolding answer_number
 sayfudhoum_answer_spec =
     tie.close
     (tie.spec
     (λ c κs. search rules)
-    (λ c κs. subst IsShort (sym c.answer_file-written.ensures.0) (answered_short _ _))
+    (λ c κs. let a = c.args in short_as _ (answered a.question.now (length a.answer.now)) (search rules) (answered_short a.question.now (length a.answer.now)))
     (λ c. search rules)
-    returns)
+    (λ c. (cc, search rules)))

@@ -23,22 +23,13 @@ loop-holds c =
     let a = c.args in
     (omega arith, sym (ap (class_by a.numbers a.used) (joined_none a.terms (truth_of a.said.values) a.d)))
 
-loop-again : tie.Need-loop-c-preserved-then-is_true invariant-loop decreases-loop
-loop-again c =
-    let l = c.loop-c in
-    let a = c.args in
-    let truth : Truth = truth_of a.said.values in
-    let taken = c.loop-c-test.true in
-    let yes_it_is : truth (pair_variable a.terms 0 (l.c - 1) a.d) ≡ true = sym (c.is_true.ensures ∙ ap truth c.pair_variable.ensures) ∙ c.if-is_true.true in
-    (omega arith, sym (ap (class_by a.numbers a.used) (joined_hit a.terms truth a.d l.c taken l.invariant.0 yes_it_is)))
-
 loop-again-2 : tie.Need-loop-c-preserved invariant-loop decreases-loop
 loop-again-2 c =
     let l = c.loop-c in
     let a = c.args in
     let truth : Truth = truth_of a.said.values in
     let taken = c.loop-c-test.true in
-    let no_it_is_not : truth (pair_variable a.terms 0 (l.c - 1) a.d) ≡ false = sym (c.is_true.ensures ∙ ap truth c.pair_variable.ensures) ∙ c.if-is_true.false in
+    let no_it_is_not : truth (pair_variable a.terms 0 (l.c - 1) a.d) ≡ false = sym (c.is_true.ensures ∙ ap truth c.pair_variable.ensures) ∙ (let no : c.is_true.result ≡ false = search rules in no) in
     (omega arith, l.invariant.1 ∙ sym (ap (class_by a.numbers a.used) (joined_miss a.terms truth a.d l.c taken l.invariant.0 no_it_is_not)))
 
 returns : tie.Need-returns invariant-loop decreases-loop
@@ -62,7 +53,13 @@ class_said_spec =
     (λ c. search rules)
     (λ c. search rules)
     (λ c. omega arith)
-    loop-again
+    (λ c.
+    let l = c.loop-c in
+    let a = c.args in
+    let truth : Truth = truth_of a.said.values in
+    let taken = c.loop-c-test.true in
+    let yes_it_is : truth (pair_variable a.terms 0 (l.c - 1) a.d) ≡ true = sym (c.is_true.ensures ∙ ap truth c.pair_variable.ensures) ∙ (let yes : c.is_true.result ≡ true = search rules in yes) in
+    (omega arith, sym (ap (class_by a.numbers a.used) (joined_hit a.terms truth a.d l.c taken l.invariant.0 yes_it_is))))
     (λ c. omega arith)
     loop-again-2
     returns)

@@ -7,19 +7,17 @@ use Rattle.text.proofs.NumberLaws.{number_none, number_led, number_other, number
 use Rattle.text.proofs.decimals.decimal_in.Statement.{statement}
 use Rattle.text.proofs.decimals.decimal_in.Tie as tie
 
-returns : tie.Need-returns-then-bytes-eq0
-returns c = let a = c.args in sym (number_none a.most a.bytes.now c.if-bytes-eq0.true)
-
-returns-2 : tie.Need-returns-then-bytes-gt1
-returns-2 c =
+pub decimal_in_spec : {M : Type 1} → statement M
+decimal_in_spec =
+    tie.close
+    (tie.spec
+    (λ c. let a = c.args in sym (number_none a.most a.bytes.now (omega arith)))
+    (λ c. search rules)
+    (λ c.
     let a = c.args in
-    sym (number_led a.most a.bytes.now c.if-bytes-eq-ZERO.true c.if-bytes-gt1.true)
-
-returns-3 : tie.Need-returns
-returns-3 c =
+    sym (number_led a.most a.bytes.now (omega arith) (omega arith)))
+    (λ c κs. search rules)
+    (λ c.
     let a = c.args in
     let some_byte = c.if-bytes-eq0.false in
-    c.digits_in.ensures ∙ sym (⊎_elim (λ w. number_single a.most a.bytes.now (omega (arith, some_byte, w.if-bytes-gt1.false))) (λ w. number_other a.most a.bytes.now (omega (arith, some_byte)) w.if-bytes-eq-ZERO.false) c.if-bytes-eq-ZERO.branch-raw)
-
-pub decimal_in_spec : {M : Type 1} → statement M
-decimal_in_spec = tie.close (tie.spec returns (λ c. search rules) returns-2 (λ c κs. search rules) returns-3)
+    c.digits_in.ensures ∙ sym (⊎_elim (λ w. number_single a.most a.bytes.now (omega (arith, some_byte))) (λ w. number_other a.most a.bytes.now (omega (arith, some_byte)) w.if-bytes-eq-ZERO.false) c.if-bytes-eq-ZERO.branch-raw)))

@@ -5,8 +5,9 @@ use Rattle.outcome.specs.declared.checks.Check.TheVariants.{Refused}
 use Rattle.decision.proofs.decisions.Decision.refused.Statement.{statement}
 use Rattle.decision.proofs.decisions.Decision.refused.Tie as tie
 
-returns : tie.Need-returns
-returns c = ap (λ x. record { outcome = Refused c.args.refusal; answer = x }) c.filler-filler.ensures
-
 pub refused_spec : {M : Type 1} → statement M
-refused_spec = tie.close (tie.spec (λ c κs. search rules) returns)
+refused_spec =
+    tie.close
+    (tie.spec
+    (λ c κs. search rules)
+    (λ c. cc))
