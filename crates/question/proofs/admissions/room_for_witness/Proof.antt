@@ -1,6 +1,5 @@
 -- `room_for_witness` refuses exactly a witness that is one too many: each return rewrites with the tests that led there.
 use Prim.Native.Nat.{◌+◌}
-use mathlib.Core.Path.{sym, ◌∙◌}
 use mathlib.Core.Path.{◌≡◌}
 use native.Mathlib.Omega.{arith}
 use borrow.Author.Rules.{rules}

@@ -1,9 +1,8 @@
 -- `check_names` refuses too many names of either sort: each return rewrites with the tests that led there.
-use mathlib.Core.Path.{sym, ap, ◌∙◌}
+use mathlib.Core.Path.{sym}
 use native.Mathlib.Omega.{arith}
 use borrow.Author.Rules.{rules}
 use borrow.Author.Tests.{lt-ltb, le-ltb}
-use Rattle.outcome.specs.declared.checks.Check.TheVariants.{Refused}
 use Rattle.question.specs.Limits.{max_elements, max_sets}
 use Rattle.question.proofs.checks.check_names.Statement.{statement}
 use Rattle.question.proofs.checks.check_names.Tie as tie

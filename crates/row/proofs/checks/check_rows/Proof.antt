@@ -1,10 +1,9 @@
 -- `check_rows` refuses in document 01's order: each return rewrites with the tests that led there.
-use mathlib.Core.Path.{sym, ap, ◌∙◌}
+use mathlib.Core.Path.{sym, ◌∙◌}
 use native.Mathlib.Omega.{arith}
 use lib.ListN.{length}
 use borrow.Author.Rules.{rules}
 use borrow.Author.Tests.{lt-ltb, le-ltb}
-use Rattle.outcome.specs.declared.checks.Check.TheVariants.{Refused}
 use Rattle.question.specs.Limits.{max_terms, max_sets, max_rows}
 use Rattle.row.specs.Checks.{rows_checked}
 use Rattle.row.proofs.checks.check_rows.Statement.{statement}

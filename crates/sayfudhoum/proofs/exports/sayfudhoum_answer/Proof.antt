@@ -1,10 +1,10 @@
 -- `sayfudhoum_answer` is `answer_file`, with what it answers as a number.
-use mathlib.Core.Path.{◌≡◌, sym, ap, subst, ◌∙◌}
+use mathlib.Core.Path.{◌≡◌, sym, subst}
 use borrow.Author.Rules.{rules}
 use lib.ListN.{length}
 use Rattle.outcome.specs.declared.writes.Written.{Written}
 use Rattle.sayfudhoum.specs.Files.{answered}
-use Rattle.sayfudhoum.specs.Numbers.{written_number, answer_number, IsShort}
+use Rattle.sayfudhoum.specs.Numbers.{answer_number, IsShort}
 use Rattle.sayfudhoum.proofs.FileLaws.{answered_short}
 use Rattle.sayfudhoum.proofs.exports.sayfudhoum_answer.Statement.{statement}
 use Rattle.sayfudhoum.proofs.exports.sayfudhoum_answer.Tie as tie

@@ -1,5 +1,4 @@
 -- `witness_of` counts the witness of x ≠ y alone: each return rewrites with the test that led there.
-use mathlib.Core.Path.{sym, ◌∙◌}
 use native.Mathlib.Omega.{arith}
 use borrow.Author.Rules.{rules}
 use borrow.Author.Tests.{eq-eqb, ne_eqb}

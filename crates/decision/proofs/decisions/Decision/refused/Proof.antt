@@ -1,7 +1,5 @@
 -- `refused` puts the filler beside the refusal.
-use mathlib.Core.Path.{ap}
 use borrow.Author.Rules.{rules}
-use Rattle.outcome.specs.declared.checks.Check.TheVariants.{Refused}
 use Rattle.decision.proofs.decisions.Decision.refused.Statement.{statement}
 use Rattle.decision.proofs.decisions.Decision.refused.Tie as tie
 
