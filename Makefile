@@ -1,6 +1,6 @@
 # make            proves what the library and the program need, and builds both
 # make example    decides case I and two versions of a trimming step, and prints in words the answers and what clashes
-# make test       the gate: all crates from nothing, every must-fail edit, and the tests through C
+# make test       the gate: all crates, every must-fail edit, and the tests through C
 # make memcheck   a part of the damaged files under valgrind, on x86-64 only
 # make outside    gives clauses to cadical and minisat, and reads back what they print
 # make bench      times the library beside cvc5, minisat and cadical, and compares verdicts and cores

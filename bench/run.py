@@ -33,11 +33,8 @@ CORE = ['--produce-unsat-cores', '--minimal-unsat-cores']
 
 def driven(driver, questions, batches, more):
     """What the driver writes of each question, split into words."""
-    # An emulator does the processor's string instructions byte by byte, so memset must not use them.
-    tune = {} if platform.machine() == 'x86_64' else {'GLIBC_TUNABLES': 'glibc.cpu.hwcaps=-ERMS,-FSRM'}
     lines = ''.join(f'{name} {text}\n' for name, text in questions.items())
-    done = subprocess.run([*driver, str(batches), more], input=lines, stdout=subprocess.PIPE, text=True, check=True,
-                          env={**os.environ, **tune})
+    done = subprocess.run([*driver, str(batches), more], input=lines, stdout=subprocess.PIPE, text=True, check=True)
     return map(str.split, done.stdout.splitlines())
 
 
@@ -261,8 +258,7 @@ def main(driver):
     for command in sorted({command for command, _ in SOLVERS.values()}):
         if not shutil.which(command):
             print(f'{command} is missing: its columns are left out')
-    emulated = '' if platform.machine() == 'x86_64' else ', the library emulated, so that true ratios are higher'
-    print(f'{date.today()}, {platform.machine()}{emulated}')
+    print(f'{date.today()}, {platform.machine()}')
     print('Ratios: how many times longer the other took; median / worst / total\n')
     details = {'question': ['verdict', 'this library', *solvers, 'clash', *cores, 'statements', 'in the part',
                             *(f'in the {title}' for title in cores)]}
