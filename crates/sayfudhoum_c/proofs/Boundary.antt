@@ -17,47 +17,23 @@ use Rattle.sayfudhoum_c.proofs.exports.sayfudhoum_judge.Reads as judge_export
 use Rattle.sayfudhoum.proofs.EndToEnd.{IsImpossible, IsPossible}
 use Rattle.sayfudhoum.proofs.Exactness.{impossible_exactly, possible_exactly}
 
--- what a caller of the export learns is what a caller of the library's function learns
-pub answer_learnt : (c : Call answer_export.Learnt) → answer_call.Learnt c.lifetimes c.given c.result c.exit
-answer_learnt c = c.fits
-
 abbrev pub answer_called : Call answer_export.Learnt → Call answer_call.Learnt
-answer_called c = record { lifetimes = c.lifetimes; given = c.given; result = c.result; exit = c.exit; fits = answer_learnt c }
-
--- what a caller of the export learns is what a caller of the library's function learns
-pub verdict_learnt : (c : Call verdict_export.Learnt) → verdict_call.Learnt c.lifetimes c.given c.result c.exit
-verdict_learnt c = c.fits
+answer_called c = record { lifetimes = c.lifetimes; given = c.given; result = c.result; exit = c.exit; fits = c.fits }
 
 abbrev pub verdict_called : Call verdict_export.Learnt → Call verdict_call.Learnt
-verdict_called c = record { lifetimes = c.lifetimes; given = c.given; result = c.result; exit = c.exit; fits = verdict_learnt c }
-
--- what a caller of the export learns is what a caller of the library's function learns
-pub clash_learnt : (c : Call clash_export.Learnt) → clash_call.Learnt c.lifetimes c.given c.result c.exit
-clash_learnt c = c.fits
+verdict_called c = record { lifetimes = c.lifetimes; given = c.given; result = c.result; exit = c.exit; fits = c.fits }
 
 abbrev pub clash_called : Call clash_export.Learnt → Call clash_call.Learnt
-clash_called c = record { lifetimes = c.lifetimes; given = c.given; result = c.result; exit = c.exit; fits = clash_learnt c }
-
--- what a caller of the export learns is what a caller of the library's function learns
-pub clauses_learnt : (c : Call clauses_export.Learnt) → clauses_call.Learnt c.lifetimes c.given c.result c.exit
-clauses_learnt c = c.fits
+clash_called c = record { lifetimes = c.lifetimes; given = c.given; result = c.result; exit = c.exit; fits = c.fits }
 
 abbrev pub clauses_called : Call clauses_export.Learnt → Call clauses_call.Learnt
-clauses_called c = record { lifetimes = c.lifetimes; given = c.given; result = c.result; exit = c.exit; fits = clauses_learnt c }
-
--- what a caller of the export learns is what a caller of the library's function learns
-pub solved_learnt : (c : Call solved_export.Learnt) → solved_call.Learnt c.lifetimes c.given c.result c.exit
-solved_learnt c = c.fits
+clauses_called c = record { lifetimes = c.lifetimes; given = c.given; result = c.result; exit = c.exit; fits = c.fits }
 
 abbrev pub solved_called : Call solved_export.Learnt → Call solved_call.Learnt
-solved_called c = record { lifetimes = c.lifetimes; given = c.given; result = c.result; exit = c.exit; fits = solved_learnt c }
-
--- what a caller of the export learns is what a caller of the library's function learns
-pub judge_learnt : (c : Call judge_export.Learnt) → judge_call.Learnt c.lifetimes c.given c.result c.exit
-judge_learnt c = c.fits
+solved_called c = record { lifetimes = c.lifetimes; given = c.given; result = c.result; exit = c.exit; fits = c.fits }
 
 abbrev pub judge_called : Call judge_export.Learnt → Call judge_call.Learnt
-judge_called c = record { lifetimes = c.lifetimes; given = c.given; result = c.result; exit = c.exit; fits = judge_learnt c }
+judge_called c = record { lifetimes = c.lifetimes; given = c.given; result = c.result; exit = c.exit; fits = c.fits }
 
 -- the export gives 0 exactly if the file is accepted and no assignment meets its statements
 pub export_impossible_exactly : (c : Call verdict_export.Learnt) → (c.result ≡ 0) ↔ IsImpossible c.given.0.now

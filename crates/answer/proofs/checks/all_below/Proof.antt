@@ -17,23 +17,20 @@ decreases-loop classes bound masks k₀ k = classes - k
 
 returns : tie.Need-returns-then-bound-m invariant-loop decreases-loop
 returns c =
-    let l = c in
-    let a = l.args in
+    let a = c.args in
     let long : length a.masks ≡ 12 = search rules in
-    sym (l.loop-k.invariant.1 ∙ below_fails a.masks a.classes l.loop-k.k a.bound (omega arith) c.loop-k-test.true c.if-bound-m.true)
+    sym (c.loop-k.invariant.1 ∙ below_fails a.masks a.classes c.loop-k.k a.bound (omega arith) c.loop-k-test.true c.if-bound-m.true)
 
 loop-again : tie.Need-loop-k-preserved invariant-loop decreases-loop
 loop-again c =
-    let l = c in
-    let a = l.args in
+    let a = c.args in
     let long : length a.masks ≡ 12 = search rules in
-    (omega arith, l.loop-k.invariant.1 ∙ below_more a.masks a.classes l.loop-k.k a.bound (omega arith) c.loop-k-test.true c.if-bound-m.false)
+    (omega arith, c.loop-k.invariant.1 ∙ below_more a.masks a.classes c.loop-k.k a.bound (omega arith) c.loop-k-test.true c.if-bound-m.false)
 
 returns-2 : tie.Need-returns invariant-loop decreases-loop
 returns-2 c =
-    let l = c in
-    let a = l.args in
-    sym (l.loop-k.invariant.1 ∙ below_end a.masks a.classes l.loop-k.k a.bound c.loop-k-test.false)
+    let a = c.args in
+    sym (c.loop-k.invariant.1 ∙ below_end a.masks a.classes c.loop-k.k a.bound c.loop-k-test.false)
 
 pub all_below_spec : {M : Type 1} → statement M
 all_below_spec =

@@ -23,24 +23,21 @@ all-below-requires c κs =
 
 returns : tie.Need-returns-then-all_below
 returns c =
-    let k = c in
-    let a = k.args in
-    sym (check_masks a.bound a.terms a.a _ true k.in-Possible.is (count k.before.before) (sym c.all_below.ensures ∙ c.if-all_below.true))
+    let a = c.args in
+    sym (check_masks a.bound a.terms a.a _ true c.in-Possible.is (count c.before.before) (sym c.all_below.ensures ∙ c.if-all_below.true))
 
 returns-2 : tie.Need-returns-in-Impossible
 returns-2 c = sym (check_none c.args.bound c.args.terms c.args.a c.in-Impossible.is)
 
 returns-3 : tie.Need-returns-in-Against
 returns-3 c =
-    let k = c in
-    let a = k.args in
-    sym (check_against a.bound a.terms a.a k.in-Possible.is (sym k.count_classes.ensures ∙ c.in-Against.is))
+    let a = c.args in
+    sym (check_against a.bound a.terms a.a c.in-Possible.is (sym c.count_classes.ensures ∙ c.in-Against.is))
 
 returns-4 : tie.Need-returns-else-all_below
 returns-4 c =
-    let k = c in
-    let a = k.args in
-    sym (check_masks a.bound a.terms a.a _ false k.in-Possible.is (count k.before.before) (sym c.all_below.ensures ∙ c.if-all_below.false))
+    let a = c.args in
+    sym (check_masks a.bound a.terms a.a _ false c.in-Possible.is (count c.before.before) (sym c.all_below.ensures ∙ c.if-all_below.false))
 
 pub check_answer_spec : {M : Type 1} → statement M
 check_answer_spec =

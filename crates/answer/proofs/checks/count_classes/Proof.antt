@@ -17,27 +17,24 @@ decreases-loop terms numbers used₀ i₀ used i = terms - i
 
 returns : tie.Need-returns-then-used-c invariant-loop decreases-loop
 returns c =
-    let l = c in
-    let a = l.args in
+    let a = c.args in
     let long : length a.numbers ≡ 12 = search rules in
-    sym (l.loop-i.invariant.2 ∙ count_against a.numbers a.terms l.loop-i.i l.loop-i.used (omega arith) c.loop-i-test.true c.if-used-c.true)
+    sym (c.loop-i.invariant.2 ∙ count_against a.numbers a.terms c.loop-i.i c.loop-i.used (omega arith) c.loop-i-test.true c.if-used-c.true)
 
 loop-again : tie.Need-loop-i-preserved invariant-loop decreases-loop
 loop-again c =
-    let l = c in
-    let a = l.args in
+    let a = c.args in
     let long : length a.numbers ≡ 12 = search rules in (
       omega arith,
       omega (arith, c.after_class-used.ensures),
-      l.loop-i.invariant.2 ∙ count_more a.numbers a.terms l.loop-i.i l.loop-i.used (omega arith) c.loop-i-test.true c.if-used-c.false
-          ∙ ap (λ n. count_from n (next a.numbers a.terms l.loop-i.i)) (sym c.after_class-used.ensures),
+      c.loop-i.invariant.2 ∙ count_more a.numbers a.terms c.loop-i.i c.loop-i.used (omega arith) c.loop-i-test.true c.if-used-c.false
+          ∙ ap (λ n. count_from n (next a.numbers a.terms c.loop-i.i)) (sym c.after_class-used.ensures),
     )
 
 returns-2 : tie.Need-returns invariant-loop decreases-loop
 returns-2 c =
-    let l = c in
-    let a = l.args in
-    sym (l.loop-i.invariant.2 ∙ count_end a.numbers a.terms l.loop-i.i l.loop-i.used c.loop-i-test.false)
+    let a = c.args in
+    sym (c.loop-i.invariant.2 ∙ count_end a.numbers a.terms c.loop-i.i c.loop-i.used c.loop-i-test.false)
 
 pub count_classes_spec : {M : Type 1} → statement M
 count_classes_spec =

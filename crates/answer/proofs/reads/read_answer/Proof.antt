@@ -19,15 +19,13 @@ table c = sym c.check.ensures ∙ c.in-Accepted.is
 returns : tie.Need-returns-in-Refused
 unfolding read_answer
 returns c =
-    let k = c in
-    let a = k.args in
-    c.refuse_file.ensures ∙ sym (ap (λ x. accepted_then x refused_file (file_read (terms_of a.q) (mask_bound a.q) a.bytes.now)) (sym k.check.ensures ∙ c.in-Refused.is))
+    let a = c.args in
+    c.refuse_file.ensures ∙ sym (ap (λ x. accepted_then x refused_file (file_read (terms_of a.q) (mask_bound a.q) a.bytes.now)) (sym c.check.ensures ∙ c.in-Refused.is))
 
 returns-2 : tie.Need-returns-in-Accepted
 unfolding read_answer
 returns-2 c =
-    let m = c in
-    rw (table m.before.before.before, ← m.mask_bound-bound.ensures, ← m.terms-total.ensures) c.read_file.ensures
+    rw (table c.before.before.before, ← c.mask_bound-bound.ensures, ← c.terms-total.ensures) c.read_file.ensures
 
 pub read_answer_spec : {M : Type 1} → statement M
 read_answer_spec =

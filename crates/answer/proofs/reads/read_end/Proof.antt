@@ -46,11 +46,9 @@ read_end_spec =
     (λ c. omega (arith, room c))
     (λ c κs. search rules)
     (λ c.
-    let k = c in
-    let a = k.args in
-    cc (end_extra a.bytes.now a.at a.a c.in-Sound.field-0 c.in-Sound.n (sound k.before.before) (omega arith)))
+    let a = c.args in
+    cc (end_extra a.bytes.now a.at a.a c.in-Sound.field-0 c.in-Sound.n (sound c.before.before) (omega arith)))
     returns-2
     (λ c.
-    let k = c in
-    let a = k.args in
-    sym (end_whole a.bytes.now a.at a.a c.in-Sound.field-0 c.in-Sound.n (sound k.before) (omega arith))))
+    let a = c.args in
+    sym (end_whole a.bytes.now a.at a.a c.in-Sound.field-0 c.in-Sound.n (sound c.before) (omega arith))))

@@ -34,11 +34,10 @@ returns c =
 
 returns-2 : tie.Need-returns-in-Sound
 returns-2 c =
-    let k = c in
-    let a = k.args in
+    let a = c.args in
     c.read_verdict.ensures
-    ∙ ap (λ v. verdict_read a.terms a.bound a.bytes.now v (head_length + k.in-Sound.n)) c.byte_at-verdict.ensures
-    ∙ sym (file_sound a.terms a.bound a.bytes.now _ _ (sound k.before.before))
+    ∙ ap (λ v. verdict_read a.terms a.bound a.bytes.now v (head_length + c.in-Sound.n)) c.byte_at-verdict.ensures
+    ∙ sym (file_sound a.terms a.bound a.bytes.now _ _ (sound c.before.before))
 
 pub read_file_spec : {M : Type 1} → statement M
 read_file_spec =

@@ -46,13 +46,11 @@ masks : (c : tie.After-masks_in-masks) →
     let a = c.args in
     c.masks_in-masks.result ≡ padded max_terms (masks_in mask_bytes a.classes (drop (a.at + head_length) a.bytes.now))
 masks c =
-    let k = c in
-    let s = k in
-    let at = s.args.at + head_length in
-    let n = k.in-Sound.n in
-    let rest = drop at s.args.bytes.now in
-    let size : at + n - at ≡ s.args.classes * mask_bytes = omega (arith, (room k.before.before).1) in
-    c.masks_in-masks.ensures ∙ ap (λ i. masks_of (take i rest)) size ∙ masks_part s.args.classes rest s.requires (simp length-drop (omega (arith, (room k.before.before).0, (room k.before.before).1)))
+    let at = c.args.at + head_length in
+    let n = c.in-Sound.n in
+    let rest = drop at c.args.bytes.now in
+    let size : at + n - at ≡ c.args.classes * mask_bytes = omega (arith, (room c.before.before).1) in
+    c.masks_in-masks.ensures ∙ ap (λ i. masks_of (take i rest)) size ∙ masks_part c.args.classes rest c.requires (simp length-drop (omega (arith, (room c.before.before).0, (room c.before.before).1)))
 
 -- and so are those that are tested
 tested : (c : tie.After-all_below) →
@@ -65,9 +63,8 @@ tested c =
 
 returns : tie.Need-returns-then-not-all_below
 returns c =
-    let k = c in
-    let a = k.args in
-    c.refuse-then-not-all_below.ensures ∙ sym (masks_bad a.bound a.bytes.now a.at a.numbers a.classes _ _ (sound k.before.before.before.before.before) (tested c.before.before ∙ c.if-not-all_below.true))
+    let a = c.args in
+    c.refuse-then-not-all_below.ensures ∙ sym (masks_bad a.bound a.bytes.now a.at a.numbers a.classes _ _ (sound c.before.before.before.before.before) (tested c.before.before ∙ c.if-not-all_below.true))
 
 returns-2 : tie.Need-returns-in-Refused
 returns-2 c =
@@ -76,11 +73,10 @@ returns-2 c =
 
 returns-3 : tie.Need-returns-else-not-all_below
 returns-3 c =
-    let k = c in
-    let a = k.args in
+    let a = c.args in
     c.read_end.ensures
-    ∙ ap (λ l. end_read a.bytes.now (a.at + head_length + k.in-Sound.n) (record { verdict = Possible; arrangement = a.numbers; masks = l })) (masks c.before.before.before)
-    ∙ sym (masks_good a.bound a.bytes.now a.at a.numbers a.classes _ _ (sound k.before.before.before.before.before) (tested c.before.before ∙ c.if-not-all_below.false))
+    ∙ ap (λ l. end_read a.bytes.now (a.at + head_length + c.in-Sound.n) (record { verdict = Possible; arrangement = a.numbers; masks = l })) (masks c.before.before.before)
+    ∙ sym (masks_good a.bound a.bytes.now a.at a.numbers a.classes _ _ (sound c.before.before.before.before.before) (tested c.before.before ∙ c.if-not-all_below.false))
 
 pub read_masks_spec : {M : Type 1} → statement M
 read_masks_spec =

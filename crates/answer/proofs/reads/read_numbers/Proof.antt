@@ -52,31 +52,26 @@ numbers : (c : tie.After-numbers_in-numbers) →
     let a = c.args in
     c.numbers_in-numbers.result ≡ padded max_terms (take a.terms (drop (a.at + head_length) a.bytes.now))
 numbers c =
-    let k = c in
-    let s = k in
-    let at = s.args.at + head_length in
-    let n = k.in-Sound.n in
-    let rest = drop at s.args.bytes.now in
-    let all : at + n - at ≡ s.args.terms = omega (arith, (room k.before.before).1) in
-    c.numbers_in-numbers.ensures ∙ ap (λ i. numbers_of (take i rest)) all ∙ numbers_part s.args.terms rest s.requires
+    let at = c.args.at + head_length in
+    let n = c.in-Sound.n in
+    let rest = drop at c.args.bytes.now in
+    let all : at + n - at ≡ c.args.terms = omega (arith, (room c.before.before).1) in
+    c.numbers_in-numbers.ensures ∙ ap (λ i. numbers_of (take i rest)) all ∙ numbers_part c.args.terms rest c.requires
 
 -- and so are those that are counted
 count : (c : tie.After-count_classes) →
     let a = c.args in
     class_count (take a.terms (drop (a.at + head_length) a.bytes.now)) ≡ c.count_classes.result
 count c =
-    let k = c in
-    let a = k.args in
+    let a = c.args in
     let l = take a.terms (drop (a.at + head_length) a.bytes.now) in
-    sym (c.count_classes.ensures ∙ ap (λ l. class_count (take a.terms l)) (numbers c.before) ∙ ap class_count (take_padded max_terms l a.terms (size k.before.before.before)))
+    sym (c.count_classes.ensures ∙ ap (λ l. class_count (take a.terms l)) (numbers c.before) ∙ ap class_count (take_padded max_terms l a.terms (size c.before.before.before)))
 
 read-masks-requires : tie.Need-read_masks-requires
 read-masks-requires c κs =
-    let n = c in
-    let s = n in
-    let l = take s.args.terms (drop (s.args.at + head_length) s.args.bytes.now) in
-    let k = counted l _ (count n.before ∙ c.in-Classes.is) in
-    omega (arith, k.1, classes_few l k.0, size n.before.before.before.before, s.requires)
+    let l = take c.args.terms (drop (c.args.at + head_length) c.args.bytes.now) in
+    let k = counted l _ (count c.before ∙ c.in-Classes.is) in
+    omega (arith, k.1, classes_few l k.0, size c.before.before.before.before, c.requires)
 
 returns : tie.Need-returns-in-Refused
 returns c =
@@ -85,20 +80,17 @@ returns c =
 
 returns-2 : tie.Need-returns-in-Against
 returns-2 c =
-    let n = c in
-    let a = n.args in
+    let a = c.args in
     let l = take a.terms (drop (a.at + head_length) a.bytes.now) in
-    c.refuse-in-Against.ensures ∙ sym (numbers_against a.terms a.bound a.bytes.now a.at _ _ (sound n.before.before.before.before.before) (against l (count n.before.before ∙ c.in-Against.is)))
+    c.refuse-in-Against.ensures ∙ sym (numbers_against a.terms a.bound a.bytes.now a.at _ _ (sound c.before.before.before.before.before) (against l (count c.before.before ∙ c.in-Against.is)))
 
 returns-3 : tie.Need-returns-in-Classes
 returns-3 c =
-    let n = c in
-    let f = n in
-    let a = f.args in
-    let k = counted (take a.terms (drop (a.at + head_length) a.bytes.now)) _ (count n.before.before ∙ c.in-Classes.is) in
+    let a = c.args in
+    let k = counted (take a.terms (drop (a.at + head_length) a.bytes.now)) _ (count c.before.before ∙ c.in-Classes.is) in
     c.read_masks.ensures
-    ∙ ap₂ (masks_read a.bound a.bytes.now (a.at + head_length + f.in-Sound.n)) (numbers n.before.before.before) k.1
-    ∙ sym (numbers_good a.terms a.bound a.bytes.now a.at _ _ (sound f.before.before.before.before.before) k.0)
+    ∙ ap₂ (masks_read a.bound a.bytes.now (a.at + head_length + c.in-Sound.n)) (numbers c.before.before.before) k.1
+    ∙ sym (numbers_good a.terms a.bound a.bytes.now a.at _ _ (sound c.before.before.before.before.before) k.0)
 
 pub read_numbers_spec : {M : Type 1} → statement M
 read_numbers_spec =

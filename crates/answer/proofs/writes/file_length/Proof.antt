@@ -31,13 +31,12 @@ sizes c =
 
 model : (c : tie.After-field_length-masks) → let a = c.args in c.field_length-numbers.result + c.field_length-masks.result ≡ 6 + a.terms + a.classes * mask_bytes
 model c =
-    let s = c in
-    let a = s.args in
+    let a = c.args in
     let size = sizes c in
     let l = take a.terms a.a.arrangement in
     let ms = take a.classes a.a.masks in
-    let numbers : c.field_length-numbers.result ≡ length (numbers_bytes l) = c.field_length-numbers.ensures ∙ ap (field_length AnswerFile 0x41) (sym size.0) ∙ numbers_length l (omega (arith, size.0, s.requires.0)) in
-    let masks : c.field_length-masks.result ≡ length (masks_bytes ms) = c.field_length-masks.ensures ∙ ap (λ n. field_length AnswerFile 0x42 (n * mask_bytes)) (sym size.1) ∙ masks_length ms (omega (arith, size.1, s.requires.1)) in
+    let numbers : c.field_length-numbers.result ≡ length (numbers_bytes l) = c.field_length-numbers.ensures ∙ ap (field_length AnswerFile 0x41) (sym size.0) ∙ numbers_length l (omega (arith, size.0, c.requires.0)) in
+    let masks : c.field_length-masks.result ≡ length (masks_bytes ms) = c.field_length-masks.ensures ∙ ap (λ n. field_length AnswerFile 0x42 (n * mask_bytes)) (sym size.1) ∙ masks_length ms (omega (arith, size.1, c.requires.1)) in
     omega (arith, numbers, masks, size.0, size.1, body_length mask_bytes ms)
 
 returns : tie.Need-returns-in-Impossible

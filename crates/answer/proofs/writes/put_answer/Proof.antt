@@ -24,12 +24,10 @@ begun : (c : tie.After-slice_known-2-1) →
 unfolding file_of
 begun c =
     let p = c.put_field-first in
-    let v = c in
-    let s = v in
-    let a = s.args in
+    let a = c.args in
     let told = said a.terms a.a in
-    let byte : v.verdict_byte.result ≡ verdict_byte (verdict_of told) = v.verdict_byte.ensures ∙ ap verdict_byte (sym (said_verdict a.terms a.a)) in
-    let whole = written 0x40 (verdict_byte (verdict_of told) ∷ []) a.buf.now (omega arith) (omega (arith, s.requires.3)) in
+    let byte : c.verdict_byte.result ≡ verdict_byte (verdict_of told) = c.verdict_byte.ensures ∙ ap verdict_byte (sym (said_verdict a.terms a.a)) in
+    let whole = written 0x40 (verdict_byte (verdict_of told) ∷ []) a.buf.now (omega arith) (omega (arith, c.requires.3)) in
     run_first (verdict_bytes (verdict_of told)) (model_bytes told ++ end_bytes) (p.ensures.0 ∙ ap (λ b. field_count (b ∷ []) (length a.buf.now)) byte ∙ whole.0) (p.ensures.1 ∙ ap (λ b. field_over 0x40 (b ∷ []) a.buf.now) byte ∙ whole.1)
 
 -- what follows fits behind it
@@ -37,9 +35,8 @@ first_fits : (c : tie.After-slice_known-2-1) →
     let p = c.put_field-first in let a = c.args in
     (length p.new.buf ≡ length a.buf.now) × (p.result + (length (model_bytes (said a.terms a.a)) + 3) ≤ length p.new.buf)
 first_fits c =
-    let s = c in
-    let room = run_room (begun c) s.requires.3 in
-    (room.0, omega (arith, room.0, room.1, s.requires.3, length-append (model_bytes (said s.args.terms s.args.a)) end_bytes))
+    let room = run_room (begun c) c.requires.3 in
+    (room.0, omega (arith, room.0, room.1, c.requires.3, length-append (model_bytes (said c.args.terms c.args.a)) end_bytes))
 
 -- all but 7F is written
 most : (c : tie.After-slice_known-3-1) →
@@ -58,20 +55,18 @@ last_fits : (c : tie.After-slice_known-3-1) →
     let buf = put_mid f.result (length f.new.buf - f.result) f.new.buf p.new.buf in
     (length buf ≡ length a.buf.now) × (f.result + p.result + 3 ≤ length buf)
 last_fits c =
-    let s = c in
-    let room = run_room (most c) s.requires.3 in
-    (room.0, omega (arith, room.0, room.1, s.requires.3))
+    let room = run_room (most c) c.requires.3 in
+    (room.0, omega (arith, room.0, room.1, c.requires.3))
 
 returns : tie.Need-returns
 returns c =
     let p = c.put_field in
-    let m = c in
-    let f = m.put_field-first in
-    let buf = put_mid f.result (length f.new.buf - f.result) f.new.buf m.put_model-middle.new.buf in
-    let at = f.result + m.put_model-middle.result in
+    let f = c.put_field-first in
+    let buf = put_mid f.result (length f.new.buf - f.result) f.new.buf c.put_model-middle.new.buf in
+    let at = f.result + c.put_model-middle.result in
     let part = take (length buf - at) (drop at buf) in
-    let room : 3 ≤ length part = simp (length-take, length-drop) (omega (arith, (last_fits m.before.before.before.before.before.before).1)) in
-    (run_end (run_on end_bytes [] p.new.buf (most m.before.before.before.before.before.before) (p.ensures.1 ∙ (written 0x7f [] part (omega arith) (omega arith)).1))).1
+    let room : 3 ≤ length part = simp (length-take, length-drop) (omega (arith, (last_fits c.before.before.before.before.before.before).1)) in
+    (run_end (run_on end_bytes [] p.new.buf (most c.before.before.before.before.before.before) (p.ensures.1 ∙ (written 0x7f [] part (omega arith) (omega arith)).1))).1
 
 pub put_answer_spec : {M : Type 1} → statement M
 put_answer_spec =
@@ -83,7 +78,7 @@ put_answer_spec =
     (λ c. omega (arith, (first_fits c).1))
     (λ c. omega (arith, (first_fits c).1))
     (λ c. search rules)
-    (λ c κs. let s = c in (s.requires.0, s.requires.1, s.requires.2, simp (length-take, length-drop) (omega (arith, (first_fits c.before).1))))
+    (λ c κs. (c.requires.0, c.requires.1, c.requires.2, simp (length-take, length-drop) (omega (arith, (first_fits c.before).1))))
     (λ c. let f = last_fits c in omega (arith, f.0, f.1))
     (λ c. omega (arith, (last_fits c.before.before).1))
     (λ c. omega (arith, (last_fits c.before.before).1))

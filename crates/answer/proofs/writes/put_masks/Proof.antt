@@ -21,12 +21,11 @@ slice_aggregate_put_field c =
 
 returns : tie.Need-returns
 returns c =
-    let m = c in
-    let a = m.args in
+    let a = c.args in
     let masks = take a.classes a.masks in
     let whole = written 0x42 (masks_body mask_bytes masks) a.buf.now (omega (arith, body_length mask_bytes masks, length-take a.classes a.masks)) (omega arith) in
     let f = c.put_field.ensures in
-    (f.0 ∙ ap (λ b. field_count b (length a.buf.now)) m.mask_body-body.ensures ∙ whole.0 ∙ omega arith, f.1 ∙ ap (λ b. field_over 0x42 b a.buf.now) m.mask_body-body.ensures ∙ whole.1)
+    (f.0 ∙ ap (λ b. field_count b (length a.buf.now)) c.mask_body-body.ensures ∙ whole.0 ∙ omega arith, f.1 ∙ ap (λ b. field_over 0x42 b a.buf.now) c.mask_body-body.ensures ∙ whole.1)
 
 pub put_masks_spec : {M : Type 1} → statement M
 put_masks_spec =

@@ -13,8 +13,7 @@ use Rattle.answer.proofs.writes.put_model.Tie as tie
 -- a possible answer has the bytes of its class numbers and masks
 possible : (c : tie.In-Possible) → let a = c.args in model_bytes (said a.terms a.a) ≡ solution_bytes (cut_to a.terms a.classes a.a)
 possible c =
-    let s = c in
-    ap model_bytes (said_some s.args.terms s.args.a s.args.classes c.in-Possible.is s.requires.2) ∙ model_some _
+    ap model_bytes (said_some c.args.terms c.args.a c.args.classes c.in-Possible.is c.requires.2) ∙ model_some _
 
 returns : tie.Need-returns-in-Impossible
 returns c =
@@ -24,10 +23,9 @@ returns c =
 
 returns-2 : tie.Need-returns-in-Possible
 returns-2 c =
-    let k = c in
-    let a = k.args in
+    let a = c.args in
     let p = c.put_solution.ensures in
-    (p.0 ∙ sym (ap length (possible k.before.before.before.before)), p.1 ∙ sym (ap (λ l. over l a.buf.now) (possible k.before.before.before.before)))
+    (p.0 ∙ sym (ap length (possible c.before.before.before.before)), p.1 ∙ sym (ap (λ l. over l a.buf.now) (possible c.before.before.before.before)))
 
 pub put_model_spec : {M : Type 1} → statement M
 put_model_spec =
@@ -35,7 +33,7 @@ put_model_spec =
     (tie.spec
     (λ c. search rules)
     (λ c. search rules)
-    (λ c κs. let s = c in (s.requires.0, s.requires.1, omega (arith, ap length (possible c.before), s.requires.3)))
+    (λ c κs. (c.requires.0, c.requires.1, omega (arith, ap length (possible c.before), c.requires.3)))
     returns
     (λ c. search rules)
     returns-2)

@@ -15,12 +15,11 @@ fits : (c : tie.After-slice_known-2-1) →
     (length p.new.buf ≡ length a.buf.now) × (p.result + length (masks_bytes (take a.classes a.a.masks)) ≤ length p.new.buf)
 fits c =
     let p = c.put_numbers-first in
-    let s = c in
-    let a = s.args in
+    let a = c.args in
     let first = numbers_bytes (take a.terms a.a.arrangement) in
     let both = length-append first (masks_bytes (take a.classes a.a.masks)) in
-    let same : length p.new.buf ≡ length a.buf.now = ap length p.ensures.1 ∙ over_length first a.buf.now (omega (arith, s.requires.2, both)) in
-    (same, omega (arith, s.requires.2, both, p.ensures.0))
+    let same : length p.new.buf ≡ length a.buf.now = ap length p.ensures.1 ∙ over_length first a.buf.now (omega (arith, c.requires.2, both)) in
+    (same, omega (arith, c.requires.2, both, p.ensures.0))
 
 -- field 41 fits
 first_fits : (c : tie.Start) → length (numbers_bytes (take c.args.terms c.args.a.arrangement)) ≤ length c.args.buf.now

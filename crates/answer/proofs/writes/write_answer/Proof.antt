@@ -30,10 +30,8 @@ returns-2 : tie.Need-returns-in-Accepted
 unfolding written written_over
 returns-2 c =
     let w = c.write_good.ensures in
-    let m = c in
-    let k = m in
-    let a = k.args in
-    rw (table k.before.before.before.before.before.before, ← m.mask_bound-bound.ensures, ← m.terms-total.ensures) (w.0, w.1)
+    let a = c.args in
+    rw (table c.before.before.before.before.before.before, ← c.mask_bound-bound.ensures, ← c.terms-total.ensures) (w.0, w.1)
 
 pub write_answer_spec : {M : Type 1} → statement M
 write_answer_spec =

@@ -12,17 +12,15 @@ use Rattle.answer.proofs.writes.write_fitting.Tie as tie
 
 returns : tie.Need-returns-then-buf-length
 returns c =
-    let f = c in
-    let a = f.args in
-    let short = lt-ltb (length a.buf.now) (length (file_of (said a.terms a.a))) (omega (arith, f.file_length-length.ensures, c.if-buf-length.true)) in
+    let a = c.args in
+    let short = lt-ltb (length a.buf.now) (length (file_of (said a.terms a.a))) (omega (arith, c.file_length-length.ensures, c.if-buf-length.true)) in
     rw short (ap Refused c.new.ensures, refl)
 
 returns-2 : tie.Need-returns
 returns-2 c =
-    let f = c in
-    let a = f.args in
-    let room = le-ltb (length a.buf.now) (length (file_of (said a.terms a.a))) (omega (arith, f.file_length-length.ensures, c.if-buf-length.false)) in
-    rw room (ap Count f.file_length-length.ensures, c.put_answer.ensures)
+    let a = c.args in
+    let room = le-ltb (length a.buf.now) (length (file_of (said a.terms a.a))) (omega (arith, c.file_length-length.ensures, c.if-buf-length.false)) in
+    rw room (ap Count c.file_length-length.ensures, c.put_answer.ensures)
 
 pub write_fitting_spec : {M : Type 1} → statement M
 write_fitting_spec = tie.close (tie.spec (λ c κs. search rules) (λ c κs. search rules) returns (λ c κs. search rules) (λ c. search rules) returns-2)

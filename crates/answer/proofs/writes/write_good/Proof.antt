@@ -11,26 +11,22 @@ use Rattle.answer.proofs.writes.write_good.Tie as tie
 
 write-fitting-requires : tie.Need-write_fitting-requires
 write-fitting-requires c κs =
-    let k = c in
-    let s = k in
-    let a = s.args in
-    let good = is_good_lem a.bound (said a.terms a.a) _ (sym k.check_answer.ensures ∙ c.in-Good.is) in
-    (s.requires, omega (arith, good.1, good_few a.bound a.terms a.a good.0, s.requires), good.1)
+    let a = c.args in
+    let good = is_good_lem a.bound (said a.terms a.a) _ (sym c.check_answer.ensures ∙ c.in-Good.is) in
+    (c.requires, omega (arith, good.1, good_few a.bound a.terms a.a good.0, c.requires), good.1)
 
 returns : tie.Need-returns-in-Bad
 unfolding good_written good_over
 returns c =
-    let k = c in
-    let a = k.args in
-    rw (is_bad a.bound (said a.terms a.a) (sym k.check_answer.ensures ∙ c.in-Bad.is)) (ap Refused c.new.ensures, refl)
+    let a = c.args in
+    rw (is_bad a.bound (said a.terms a.a) (sym c.check_answer.ensures ∙ c.in-Bad.is)) (ap Refused c.new.ensures, refl)
 
 returns-2 : tie.Need-returns-in-Good
 unfolding good_written good_over
 returns-2 c =
-    let k = c in
-    let a = k.args in
+    let a = c.args in
     let w = c.write_fitting.ensures in
-    rw (is_good_lem a.bound (said a.terms a.a) _ (sym k.check_answer.ensures ∙ c.in-Good.is)).0 (w.0, w.1)
+    rw (is_good_lem a.bound (said a.terms a.a) _ (sym c.check_answer.ensures ∙ c.in-Good.is)).0 (w.0, w.1)
 
 pub write_good_spec : {M : Type 1} → statement M
 write_good_spec =

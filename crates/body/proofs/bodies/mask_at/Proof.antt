@@ -22,10 +22,9 @@ returns c =
 
 small : (c : tie.After-number_in) → c.number_in.result < 256 ^ mask_bytes
 small c =
-    let s = c in
-    let rest = drop s.args.at s.args.body.now in
-    let size : length (take mask_bytes rest) ≡ mask_bytes = length-take-le mask_bytes rest (simp length-drop (omega (arith, s.requires))) in
-    let below = number_below (take mask_bytes rest) (bytes_take mask_bytes rest (bytes_drop s.args.at s.args.body.now (λ i less. omega (arith, c.shared_slice_known-1.given i)))) in
+    let rest = drop c.args.at c.args.body.now in
+    let size : length (take mask_bytes rest) ≡ mask_bytes = length-take-le mask_bytes rest (simp length-drop (omega (arith, c.requires))) in
+    let below = number_below (take mask_bytes rest) (bytes_take mask_bytes rest (bytes_drop c.args.at c.args.body.now (λ i less. omega (arith, c.shared_slice_known-1.given i)))) in
     rw (returns c) (rw size at below)
 
 pub mask_at_spec : {M : Type 1} → statement M

@@ -22,35 +22,32 @@ decreases-loop i n q count rest₀ j₀ rest j = 64 - j
 -- whatever the run is, the statement at a turn is copied, or left out
 loop-again : tie.Need-loop-j-preserved invariant-loop decreases-loop
 loop-again c =
-    let l = c in
-    let q = l.args.q in
-    let i = l.args.i in
-    let n = l.args.n in
-    let j = l.loop-j.j in
+    let q = c.args.q in
+    let i = c.args.i in
+    let n = c.args.n in
+    let j = c.loop-j.j in
     let below = c.if-count-j.false in
     let inside = c.loop-j-test.true in
     let run = c.outside.ensures in (
       omega arith,
       ⊎_elim (λ x. omega (arith, ap (λ r. r.count) x.rest-is)) (λ x. omega (arith, ap (λ r. r.count) x.rest-is)) c.if-outside.branch-raw,
       λ long. ⊎_elim
-          (λ x. x.rest-is ∙ ap (λ r. added r (get_or q.table j idle).statement) (l.loop-j.invariant.2 long) ∙ ⊎_elim (kept_before q i n long j idle below inside) (kept_behind q i n long j idle below inside) (run.0 x.if-outside.true))
-          (λ x. let within = run.1 x.if-outside.false in x.rest-is ∙ l.loop-j.invariant.2 long ∙ kept_inside q i n long j idle below inside within.0 within.1)
+          (λ x. x.rest-is ∙ ap (λ r. added r (get_or q.table j idle).statement) (c.loop-j.invariant.2 long) ∙ ⊎_elim (kept_before q i n long j idle below inside) (kept_behind q i n long j idle below inside) (run.0 x.if-outside.true))
+          (λ x. let within = run.1 x.if-outside.false in x.rest-is ∙ c.loop-j.invariant.2 long ∙ kept_inside q i n long j idle below inside within.0 within.1)
           c.if-outside.branch-raw,
     )
 
 returns : tie.Need-returns-after-loop-j invariant-loop decreases-loop
 returns c =
-    let l = c in
-    let q = l.args.q in
+    let q = c.args.q in
     let long : length q.table ≡ 64 = search table_long in
-    l.loop-j.invariant.2 long ∙ kept_all q l.args.i l.args.n long l.loop-j.j (omega (arith, statements_length q, long))
+    c.loop-j.invariant.2 long ∙ kept_all q c.args.i c.args.n long c.loop-j.j (omega (arith, statements_length q, long))
 
 returns-2 : tie.Need-returns-then-count-j invariant-loop decreases-loop
 returns-2 c =
-    let l = c in
-    let q = l.args.q in
+    let q = c.args.q in
     let long : length q.table ≡ 64 = search table_long in
-    l.loop-j.invariant.2 long ∙ kept_all q l.args.i l.args.n long l.loop-j.j (omega (arith, statements_length q, c.if-count-j.true))
+    c.loop-j.invariant.2 long ∙ kept_all q c.args.i c.args.n long c.loop-j.j (omega (arith, statements_length q, c.if-count-j.true))
 
 pub drop_statements_spec : {M : Type 1} → statement M
 drop_statements_spec =

@@ -9,16 +9,14 @@ use Rattle.clash.proofs.clashes.clash.Tie as tie
 
 walk-requires : tie.Need-walk-kept-requires
 walk-requires c κs =
-    let d = c in
-    let told = d.begin-begun.ensures in
-    ((is_impossible d.args.q d.begin-begun.result.decision told.0 c.in-Impossible.is).0, told.1 c.in-Impossible.is)
+    let told = c.begin-begun.ensures in
+    ((is_impossible c.args.q c.begin-begun.result.decision told.0 c.in-Impossible.is).0, told.1 c.in-Impossible.is)
 
 returns : tie.Need-returns
 returns c =
-    let d = c in
-    let q = d.args.q in
-    let r = d.begin-begun.result.decision in
-    let is = d.begin-begun.ensures.0 in
+    let q = c.args.q in
+    let r = c.begin-begun.result.decision in
+    let is = c.begin-begun.ensures.0 in
     ⊎_elim
     (λ x. ap (with_kept r) (x.kept-is ∙ x.keep_none-kept.ensures) ∙ sym (keeps_none q r is x.in-Possible.is))
     (λ x. ap (with_kept r) (x.kept-is ∙ x.walk-kept.ensures) ∙ sym (keeps_part q r is x.in-Impossible.is))

@@ -9,24 +9,20 @@ use Rattle.clash.proofs.files.clash_file.Tie as tie
 
 write-clash-requires : tie.Need-write_clash-requires
 write-clash-requires c κs =
-    let r = c in
-    let a = r.args in
-    (checked_read a.bytes.now r.read_question-read.result r.read_question-read.ensures c.in-Accepted.is, c.clash-found.ensures)
+    let a = c.args in
+    (checked_read a.bytes.now c.read_question-read.result c.read_question-read.ensures c.in-Accepted.is, c.clash-found.ensures)
 
 returns : tie.Need-returns-in-Refused
 returns c =
-    let r = c in
-    let a = r.args in
-    let left = refused_read a.bytes.now r.read_question-read.result r.read_question-read.ensures (three a.part.now a.indexes.now a.answer.now) _ c.in-Refused.is in
+    let a = c.args in
+    let left = refused_read a.bytes.now c.read_question-read.result c.read_question-read.ensures (three a.part.now a.indexes.now a.answer.now) _ c.in-Refused.is in
     (sym left.0, sym left.1)
 
 returns-2 : tie.Need-returns-in-Accepted
 returns-2 c =
-    let w = c in
-    let r = w in
-    let a = r.args in
-    let all = accepted_read a.bytes.now r.read_question-read.result r.read_question-read.ensures (three a.part.now a.indexes.now a.answer.now) w.in-Accepted.is in
-    (w.write_clash.ensures.0 ∙ sym all.0, w.write_clash.ensures.1 ∙ sym all.1)
+    let a = c.args in
+    let all = accepted_read a.bytes.now c.read_question-read.result c.read_question-read.ensures (three a.part.now a.indexes.now a.answer.now) c.in-Accepted.is in
+    (c.write_clash.ensures.0 ∙ sym all.0, c.write_clash.ensures.1 ∙ sym all.1)
 
 pub clash_file_spec : {M : Type 1} → statement M
 clash_file_spec =

@@ -18,18 +18,16 @@ decreases-loop bytes buf₀ i₀ buf i = length bytes - i
 
 loop-again : tie.Need-loop-i-preserved invariant-loop decreases-loop
 loop-again c =
-    let l = c in
-    let a = l.args in (
+    let a = c.args in (
       omega arith,
-      length-set l.loop-i.buf l.loop-i.i (get_or a.bytes.now l.loop-i.i 0) ∙ l.loop-i.invariant.1,
-      copied_in a.bytes.now a.buf.now l.loop-i.buf l.loop-i.i (get_or a.bytes.now l.loop-i.i 0) (omega arith) (omega arith) l.loop-i.invariant.2 refl,
+      length-set c.loop-i.buf c.loop-i.i (get_or a.bytes.now c.loop-i.i 0) ∙ c.loop-i.invariant.1,
+      copied_in a.bytes.now a.buf.now c.loop-i.buf c.loop-i.i (get_or a.bytes.now c.loop-i.i 0) (omega arith) (omega arith) c.loop-i.invariant.2 refl,
     )
 
 returns : tie.Need-returns invariant-loop decreases-loop
 returns c =
-    let l = c in
-    let a = l.args in
-    l.loop-i.invariant.2 ∙ ap (λ b. over b a.buf.now) (take_all l.loop-i.i a.bytes.now (omega arith))
+    let a = c.args in
+    c.loop-i.invariant.2 ∙ ap (λ b. over b a.buf.now) (take_all c.loop-i.i a.bytes.now (omega arith))
 
 pub put_bytes_spec : {M : Type 1} → statement M
 put_bytes_spec =

@@ -12,38 +12,33 @@ use Rattle.clash.proofs.files.put_three.Tie as tie
 
 put-bytes-requires : tie.Need-put_bytes-requires
 put-bytes-requires c κs =
-    let f = c in
-    let a = f.args in
+    let a = c.args in
     (two_fit (three (question_bytes a.found) a.old.now a.said.now) (three a.part.now a.indexes.now a.answer.now) (search rules)).0
 
 put-bytes-requires-2 : tie.Need-put_bytes-requires-in-Count
 put-bytes-requires-2 c κs =
-    let f = c in
-    let a = f.args in
+    let a = c.args in
     (two_fit (three (question_bytes a.found) a.old.now a.said.now) (three a.part.now a.indexes.now a.answer.now) (search rules)).1
 
 returns-2 : tie.Need-returns-in-Refused
 returns-2 c =
-    let w = c in
-    let s = w in
-    let a = s.args in
+    let a = c.args in
     let new = three (question_bytes a.found) a.old.now a.said.now in
     let old = three a.part.now a.indexes.now a.answer.now in
-    let told = sym w.write_question.ensures.0 ∙ c.in-Refused.is in
-    let short = refused_short a.found (length a.part.now) _ s.requires told in
+    let told = sym c.write_question.ensures.0 ∙ c.in-Refused.is in
+    let short = refused_short a.found (length a.part.now) _ c.requires told in
     let kept = three_short new old (short_part new old short.0) in
-    (ap Refused short.1 ∙ sym kept.0, ap (λ p. three p a.indexes.now a.answer.now) (w.write_question.ensures.1 ∙ refused_over a.found a.part.now _ told) ∙ sym kept.1)
+    (ap Refused short.1 ∙ sym kept.0, ap (λ p. three p a.indexes.now a.answer.now) (c.write_question.ensures.1 ∙ refused_over a.found a.part.now _ told) ∙ sym kept.1)
 
 returns-3 : tie.Need-returns-in-Count
 returns-3 c =
-    let w = c in
-    let a = w.args in
+    let a = c.args in
     let new = three (question_bytes a.found) a.old.now a.said.now in
     let old = three a.part.now a.indexes.now a.answer.now in
-    let told = written_writable a.found (length a.part.now) _ (sym w.write_question.ensures.0 ∙ c.in-Count.is) in
+    let told = written_writable a.found (length a.part.now) _ (sym c.write_question.ensures.0 ∙ c.in-Count.is) in
     let done = three_fit new old (none_short new old (search rules) told.0.1) in (
       ap (λ n. Counts n (length a.old.now) (length a.said.now)) told.1 ∙ sym done.0,
-      three_same (w.write_question.ensures.1 ∙ written_over_lem a.found a.part.now told.0) c.put_bytes.ensures c.put_bytes-in-Count.ensures ∙ sym done.1,
+      three_same (c.write_question.ensures.1 ∙ written_over_lem a.found a.part.now told.0) c.put_bytes.ensures c.put_bytes-in-Count.ensures ∙ sym done.1,
     )
 
 pub put_three_spec : {M : Type 1} → statement M

@@ -20,41 +20,32 @@ use Rattle.clash.proofs.files.write_clash.Tie as tie
 answered : (s : tie.After-write_answer) → let w = s.write_answer in let q = s.args.q in
     (w.result ≡ fitted (file_of (answer q)) 49) × (w.new.buf ≡ fitted_over (file_of (answer q)) (replicate 49 0))
 answered s =
-    let e = s in
-    let p = answer_writes e.args.q e.requires.0 e.args.found e.requires.1 (replicate 49 0) in
+    let p = answer_writes s.args.q s.requires.0 s.args.found s.requires.1 (replicate 49 0) in
     (s.write_answer.ensures.0 ∙ p.0, s.write_answer.ensures.1 ∙ p.1)
 
 -- it stands at the front of its buffer
 front : (c : tie.In-Count) →
-    let s = c in let n = c.in-Count.n in let q = s.args.q in
-    (n ≤ length s.write_answer.new.buf) × (take n s.write_answer.new.buf ≡ file_of (answer q))
+    let n = c.in-Count.n in let q = c.args.q in
+    (n ≤ length c.write_answer.new.buf) × (take n c.write_answer.new.buf ≡ file_of (answer q))
 front c =
-    let s = c in
-    let e = s in
-    at_front (file_of (answer e.args.q)) (replicate 49 0) s.write_answer.new.buf _ (sym (answered s.before.before).0 ∙ c.in-Count.is) (answered s.before.before).1
+    at_front (file_of (answer c.args.q)) (replicate 49 0) c.write_answer.new.buf _ (sym (answered c.before.before).0 ∙ c.in-Count.is) (answered c.before.before).1
 
 -- and the indexes of the part in front of the array
-inside : (c : tie.In-Count) → let e = c in e.args.found.part.count ≤ length e.args.found.indexes
+inside : (c : tie.In-Count) → c.args.found.part.count ≤ length c.args.found.indexes
 inside c =
-    let e = c in
-    let long : length e.args.found.indexes ≡ 64 = search rules in
-    omega (arith, few_indexes e.args.q e.requires.0 e.args.found e.requires.1, long)
+    let long : length c.args.found.indexes ≡ 64 = search rules in
+    omega (arith, few_indexes c.args.q c.requires.0 c.args.found c.requires.1, long)
 
 returns : tie.Need-returns-in-Refused
 returns c =
-    let s = c in
-    let e = s in
-    never_refused (file_of (answer e.args.q)) (replicate 49 0) (answer_fits e.args.q e.requires.0 e.args.found e.requires.1) (answered s.before.before).0 c.in-Refused.is
+    never_refused (file_of (answer c.args.q)) (replicate 49 0) (answer_fits c.args.q c.requires.0 c.args.found c.requires.1) (answered c.before.before).0 c.in-Refused.is
 
 returns-2 : tie.Need-returns-in-Count
 returns-2 c =
-    let p = c in
-    let k = p in
-    let e = k in
-    let a = e.args in
+    let a = c.args in
     let old = three a.part.now a.indexes.now a.answer.now in
-    let all = three_same (ap question_bytes (part_is a.q e.requires.0 a.found e.requires.1)) (indexes_are a.q e.requires.0 a.found e.requires.1) (front k.before.before.before.before.before.before.before.before.before.before.before.before.before.before).1 in
-    (p.put_three.ensures.0 ∙ ap (λ t. three_written t old) all, p.put_three.ensures.1 ∙ ap (λ t. three_over t old) all)
+    let all = three_same (ap question_bytes (part_is a.q c.requires.0 a.found c.requires.1)) (indexes_are a.q c.requires.0 a.found c.requires.1) (front c.before.before.before.before.before.before.before.before.before.before.before.before.before.before).1 in
+    (c.put_three.ensures.0 ∙ ap (λ t. three_written t old) all, c.put_three.ensures.1 ∙ ap (λ t. three_over t old) all)
 
 pub write_clash_spec : {M : Type 1} → statement M
 write_clash_spec =
@@ -68,7 +59,7 @@ write_clash_spec =
     (λ c. sym (length-take-le _ _ (inside c.before.before.before)))
     (λ c. (front c.before.before.before).0)
     (λ c. sym (length-take-le _ _ (front c.before.before.before.before).0))
-    (λ c κs. let e = c in part_accepts e.args.q e.requires.0 e.args.found e.requires.1)
+    (λ c κs. part_accepts c.args.q c.requires.0 c.args.found c.requires.1)
     returns
     (λ c. search rules)
     (λ c. search rules)

@@ -12,10 +12,9 @@ begin-full-requires c κs = (sym c.check.ensures ∙ c.in-Accepted.is, c.if-q-eq
 
 returns-2 : tie.Need-returns
 returns-2 c =
-    let d = c in
     let q = c.args.q in
     let told = c.from_the_first.ensures in
-    let same = told.0 ∙ d.decide.ensures in
+    let same = told.0 ∙ c.decide.ensures in
     (same, λ v. let i = is_impossible q c.from_the_first.result.decision same v in subst (MayStart q) (sym told.1) (start_first q i.0 i.1))
 
 pub begin_spec : {M : Type 1} → statement M

@@ -16,17 +16,15 @@ tested c = ap without_model (sym c.drop_statements-rest.ensures) ∙ sym c.is_im
 
 returns : tie.Need-returns-then-is_impossible
 returns c =
-    let s = c in
-    let q = s.args.q in
-    let is = (accepted q).0 s.requires.0 in
+    let q = c.args.q in
+    let is = (accepted q).0 c.requires.0 in
     let spared = tested c.before.before ∙ c.if-is_impossible.true in
-    (ap decided_as c.impossible-answer.ensures ∙ sym (spared_decided q is s.requires.1 spared), λ v. start_spared q is s.requires.1 spared)
+    (ap decided_as c.impossible-answer.ensures ∙ sym (spared_decided q is c.requires.1 spared), λ v. start_spared q is c.requires.1 spared)
 
 returns-2 : tie.Need-returns
 returns-2 c =
-    let s = c in
-    let q = s.args.q in
-    (c.decide.ensures, λ v. let i = is_impossible q c.decide.result c.decide.ensures v in start_needed q i.0 i.1 s.requires.1 (tested c.before.before ∙ c.if-is_impossible.false))
+    let q = c.args.q in
+    (c.decide.ensures, λ v. let i = is_impossible q c.decide.result c.decide.ensures v in start_needed q i.0 i.1 c.requires.1 (tested c.before.before ∙ c.if-is_impossible.false))
 
 pub begin_full_spec : {M : Type 1} → statement M
 begin_full_spec = tie.close (tie.spec (λ c κs. search rules) (λ c κs. search rules) (λ c κs. search rules) returns (λ c. search rules) (λ c κs. search rules) returns-2)

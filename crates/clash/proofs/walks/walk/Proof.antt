@@ -29,34 +29,25 @@ loop-holds c =
     subst (λ p. Turn a.q p (padded max_statements []) 0 a.start.from a.start.bound a.start.left) (sym c.drop_statements-part.ensures) (turn_starts a.q a.start c.requires.0 c.requires.1 long)
 
 -- what remains without a run is impossible exactly if the test says so
-tested : (c : tie.After-is_impossible invariant-loop decreases-loop) → let r = c in let l = r in
-    is_none (answer (dropped l.loop-i.part l.loop-i.kept r.run_length-n.result)) ≡ c.is_impossible.result
+tested : (c : tie.After-is_impossible invariant-loop decreases-loop) →
+    is_none (answer (dropped c.loop-i.part c.loop-i.kept c.run_length-n.result)) ≡ c.is_impossible.result
 tested c =
-    let r = c in
-    let e = r in
-    let l = e in
-    let n = r.run_length-n in
-    search_none _ (turn_accepted l.loop-i.invariant e.loop-i-test.true (λ x. omega arith) n.result n.ensures.0 n.ensures.1 n.ensures.2) ∙ ap without_model (sym r.drop_statements-rest.ensures) ∙ sym c.is_impossible.ensures
+    let n = c.run_length-n in
+    search_none _ (turn_accepted c.loop-i.invariant c.loop-i-test.true (λ x. omega arith) n.result n.ensures.0 n.ensures.1 n.ensures.2) ∙ ap without_model (sym c.drop_statements-rest.ensures) ∙ sym c.is_impossible.ensures
 
 -- a run is dropped
 loop-again-2 : tie.Need-loop-i-preserved-then-is_impossible invariant-loop decreases-loop
 loop-again-2 c =
-    let r = c in
-    let e = r in
-    let l = e in
-    let n = r.run_length-n in
-    let q = l.args.q in
-    subst (λ p. Turn q p l.loop-i.indexes l.loop-i.kept (l.loop-i.i + n.result) l.loop-i.bound (l.loop-i.left - 1)) (sym r.drop_statements-rest.ensures)
-    (turn_drops l.loop-i.invariant e.loop-i-test.true (λ x. omega arith) n.result n.ensures.0 n.ensures.1 n.ensures.2 (tested c.before ∙ c.if-is_impossible.true))
+    let n = c.run_length-n in
+    let q = c.args.q in
+    subst (λ p. Turn q p c.loop-i.indexes c.loop-i.kept (c.loop-i.i + n.result) c.loop-i.bound (c.loop-i.left - 1)) (sym c.drop_statements-rest.ensures)
+    (turn_drops c.loop-i.invariant c.loop-i-test.true (λ x. omega arith) n.result n.ensures.0 n.ensures.1 n.ensures.2 (tested c.before ∙ c.if-is_impossible.true))
 
 -- or it can't be
 loop-again-3 : tie.Need-loop-i-preserved invariant-loop decreases-loop
 loop-again-3 c =
-    let r = c in
-    let e = r in
-    let l = e in
-    let n = r.run_length-n in
-    turn_bounds l.loop-i.invariant e.loop-i-test.true (λ x. omega arith) n.result n.ensures.0 n.ensures.1 n.ensures.2 n.ensures.3 (tested c.before ∙ c.if-is_impossible.false)
+    let n = c.run_length-n in
+    turn_bounds c.loop-i.invariant c.loop-i-test.true (λ x. omega arith) n.result n.ensures.0 n.ensures.1 n.ensures.2 n.ensures.3 (tested c.before ∙ c.if-is_impossible.false)
 
 returns : tie.Need-returns invariant-loop decreases-loop
 returns c = let e = turn_ends c.loop-i.invariant c.loop-i-test.false in ap₂ (λ p x. record { part = p; indexes = x }) e.0 e.1
@@ -78,13 +69,13 @@ walk_spec =
     (λ c. turn_keeps c.loop-i.invariant c.loop-i-test.true (omega arith))
     (λ c κs. turn_asks c.loop-i.invariant c.loop-i-test.true (λ x. omega arith))
     (λ c κs. search rules)
-    (λ c. let e = c in turn_has e.loop-i.invariant e.loop-i-test.true (λ x. omega arith))
+    (λ c. turn_has c.loop-i.invariant c.loop-i-test.true (λ x. omega arith))
     (λ c κs. search rules)
-    (λ c. let r = c in omega (arith, r.loop-i.invariant.few_stated, r.run_length-n.ensures.2))
-    (λ c. let r = c in omega (arith, r.loop-i.invariant.few_stated, r.run_length-n.ensures.2))
-    (λ c. let r = c in let t = r.loop-i.invariant in omega (arith, t.few_stated, r.run_length-n.ensures.0, r.run_length-n.ensures.2))
+    (λ c. omega (arith, c.loop-i.invariant.few_stated, c.run_length-n.ensures.2))
+    (λ c. omega (arith, c.loop-i.invariant.few_stated, c.run_length-n.ensures.2))
+    (λ c. let t = c.loop-i.invariant in omega (arith, t.few_stated, c.run_length-n.ensures.0, c.run_length-n.ensures.2))
     loop-again-2
-    (λ c. let r = c in omega (arith, r.loop-i.invariant.few_stated, r.run_length-n.ensures.2))
-    (λ c. let r = c in omega (arith, r.run_length-n.ensures.1))
+    (λ c. omega (arith, c.loop-i.invariant.few_stated, c.run_length-n.ensures.2))
+    (λ c. omega (arith, c.run_length-n.ensures.1))
     loop-again-3
     returns)

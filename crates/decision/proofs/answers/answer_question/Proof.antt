@@ -34,9 +34,8 @@ decided_written q old = go (checked q) refl
 
 returns : tie.Need-returns
 returns c =
-    let s = c in
-    let q = s.args.q in
-    let old = s.args.buf.now in
+    let q = c.args.q in
+    let old = c.args.buf.now in
     let is = ap (λ d. d.answer) c.decide-decision.ensures in
     let w = c.write_answer.ensures in
     (w.0 ∙ ap (λ a. written q a (length old)) is ∙ (decided_written q old).0, w.1 ∙ ap (λ a. written_over q a old) is ∙ (decided_written q old).1)

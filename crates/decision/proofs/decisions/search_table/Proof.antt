@@ -18,26 +18,23 @@ use Rattle.decision.proofs.decisions.search_table.Tie as tie
 
 -- as many rows stand at the front of the buffer, and the search says of them what it says of the table's
 came : (c : tie.Joined-write_rows) →
-    let w = c in let q = w.args.q in
-    (c.match-write_rows.count ≤ length w.write_rows.new.rows) × (searched (terms_of q) q.sets (take c.match-write_rows.count w.write_rows.new.rows) ≡ table_searched q)
+    let q = c.args.q in
+    (c.match-write_rows.count ≤ length c.write_rows.new.rows) × (searched (terms_of q) q.sets (take c.match-write_rows.count c.write_rows.new.rows) ≡ table_searched q)
 came c =
-    let w = c in
-    let q = w.args.q in
-    let told = w.write_rows.ensures in
+    let q = c.args.q in
+    let told = c.write_rows.ensures in
     let long : length q.table ≡ 64 = search table_long in
     ⊎_elim
     (λ x. (omega (arith, x.count-is), many_searched q _ (table_refused q _ _ (stated_few q long) (omega arith) (sym told.0 ∙ x.in-Refused.is))))
     (λ x. let s = table_stands q _ _ _ told.1 (sym told.0 ∙ x.in-Count.is) in
-    (omega (arith, x.count-is, s.0), rows_searched q _ (ap (λ n. take n w.write_rows.new.rows) x.count-is ∙ s.1)))
+    (omega (arith, x.count-is, s.0), rows_searched q _ (ap (λ n. take n c.write_rows.new.rows) x.count-is ∙ s.1)))
     c.match-write_rows.branch-raw
 
 returns : tie.Need-returns
 returns c =
-    let k = c in
-    let w = k in
-    let q = w.args.q in
-    let rows = take k.match-write_rows.count w.write_rows.new.rows in
-    c.search.ensures ∙ ap (λ t. searched t q.sets rows) c.terms-n.ensures ∙ (came k.before.before.before).1
+    let q = c.args.q in
+    let rows = take c.match-write_rows.count c.write_rows.new.rows in
+    c.search.ensures ∙ ap (λ t. searched t q.sets rows) c.terms-n.ensures ∙ (came c.before.before.before).1
 
 pub search_table_spec : {M : Type 1} → statement M
 search_table_spec =

@@ -14,8 +14,7 @@ use Rattle.dimacs.proofs.heads.put_number.Tie as tie
 -- there is room for the digits and one byte more
 room : (c : tie.After-slice_known-2-1) → c.args.at + (c.put_decimal-digits.result + 1) ≤ longest_clauses
 room c =
-    let e = c in
-    omega (arith, c.put_decimal-digits.ensures.0, length-append (decimal e.args.n) (e.args.end ∷ []), e.requires)
+    omega (arith, c.put_decimal-digits.ensures.0, length-append (decimal c.args.n) (c.args.end ∷ []), c.requires)
 
 returns : tie.Need-returns
 returns c =

@@ -15,8 +15,7 @@ use Rattle.dimacs.proofs.literals.put_word.Tie as tie
 -- there is room for the literal's bytes and one more
 room : (c : tie.After-slice_known-2-1) → c.args.at + (c.put_literal-length.result + 1) ≤ longest_clauses
 room c =
-    let e = c in
-    omega (arith, c.put_literal-length.ensures.0, length-append (literal_text e.args.l) (space ∷ []), e.requires)
+    omega (arith, c.put_literal-length.ensures.0, length-append (literal_text c.args.l) (space ∷ []), c.requires)
 
 returns : tie.Need-returns
 returns c =

@@ -18,20 +18,17 @@ decreases-loop file tag table i₀ i = length field_table - i
 
 returns : tie.Need-returns-then-e-tag invariant-loop decreases-loop
 returns c =
-    let l = c in
-    let a = l.args in
-    c.known_of.ensures ∙ sym (l.loop-i.invariant.1 ∙ hit a.file a.tag field_table l.loop-i.i _ c.loop-i-test.true (eq-eqb _ _ c.if-e-tag.true))
+    let a = c.args in
+    c.known_of.ensures ∙ sym (c.loop-i.invariant.1 ∙ hit a.file a.tag field_table c.loop-i.i _ c.loop-i-test.true (eq-eqb _ _ c.if-e-tag.true))
 
 loop-again : tie.Need-loop-i-preserved invariant-loop decreases-loop
 loop-again c =
-    let l = c in
-    let a = l.args in
-    (omega arith, l.loop-i.invariant.1 ∙ miss a.file a.tag field_table l.loop-i.i _ c.loop-i-test.true (ne_eqb _ _ c.if-e-tag.false))
+    let a = c.args in
+    (omega arith, c.loop-i.invariant.1 ∙ miss a.file a.tag field_table c.loop-i.i _ c.loop-i-test.true (ne_eqb _ _ c.if-e-tag.false))
 
 returns-2 : tie.Need-returns invariant-loop decreases-loop
 returns-2 c =
-    let l = c in
-    sym (l.loop-i.invariant.1 ∙ none l.args.file l.args.tag field_table l.loop-i.i c.loop-i-test.false)
+    sym (c.loop-i.invariant.1 ∙ none c.args.file c.args.tag field_table c.loop-i.i c.loop-i-test.false)
 
 pub length_of_spec : {M : Type 1} → statement M
 length_of_spec =

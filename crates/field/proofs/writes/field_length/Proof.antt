@@ -12,14 +12,12 @@ returns c = sym (ap (λ b. sized_length b c.args.size) (sym c.length_of.ensures 
 returns-2 : tie.Need-returns-in-Fixed
 unfolding field_length
 returns-2 c =
-    let k = c in
-    c.with_head.ensures ∙ sym (ap (λ b. sized_length b k.args.size) (sym k.length_of.ensures ∙ c.in-Fixed.is))
+    c.with_head.ensures ∙ sym (ap (λ b. sized_length b c.args.size) (sym c.length_of.ensures ∙ c.in-Fixed.is))
 
 returns-3 : tie.Need-returns-in-Depends
 unfolding field_length
 returns-3 c =
-    let k = c in
-    c.with_head-in-Depends.ensures ∙ sym (ap (λ b. sized_length b k.args.size) (sym k.length_of.ensures ∙ c.in-Depends.is))
+    c.with_head-in-Depends.ensures ∙ sym (ap (λ b. sized_length b c.args.size) (sym c.length_of.ensures ∙ c.in-Depends.is))
 
 pub field_length_spec : {M : Type 1} → statement M
 field_length_spec =

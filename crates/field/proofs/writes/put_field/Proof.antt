@@ -23,11 +23,10 @@ returns-2 c =
 
 returns-3 : tie.Need-returns
 returns-3 c =
-    let h = c in
-    let a = h.args in
+    let a = c.args in
     let n = length a.body.now in
-    let whole = written a.tag a.body.now a.buf.now h.if-n-gt-LONGEST_BODY.false h.if-buf-n.false in
-    let joined = behind (a.tag ∷ n / 256 ∷ n % 256 ∷ []) a.body.now a.buf.now h.put_head.new.buf c.put_bytes.new.buf 3 refl h.put_head.ensures c.put_bytes.ensures in
+    let whole = written a.tag a.body.now a.buf.now c.if-n-gt-LONGEST_BODY.false c.if-buf-n.false in
+    let joined = behind (a.tag ∷ n / 256 ∷ n % 256 ∷ []) a.body.now a.buf.now c.put_head.new.buf c.put_bytes.new.buf 3 refl c.put_head.ensures c.put_bytes.ensures in
     (sym whole.0, joined ∙ sym whole.1)
 
 pub put_field_spec : {M : Type 1} → statement M

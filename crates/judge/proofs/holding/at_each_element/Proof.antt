@@ -20,28 +20,23 @@ decreases-loop n elements masks s d₀ d = n - d
 
 -- the test at a turn, in the assignment of n elements
 tested : (c : tie.After-at_element invariant-loop decreases-loop) →
-    let l = c in
-    let a = l.args in
-    at_element (assigned_by a.n a.elements.now a.masks.now) a.s l.loop-d.d ≡ c.at_element.result
+    let a = c.args in
+    at_element (assigned_by a.n a.elements.now a.masks.now) a.s c.loop-d.d ≡ c.at_element.result
 tested c =
-    let l = c in
-    let a = l.args in
-    any_size a.n 0 a.elements.now a.masks.now a.s l.loop-d.d ∙ sym c.at_element.ensures
+    let a = c.args in
+    any_size a.n 0 a.elements.now a.masks.now a.s c.loop-d.d ∙ sym c.at_element.ensures
 
 returns : tie.Need-returns-then-not-at_element invariant-loop decreases-loop
 returns c =
-    let l = c in
-    sym (walk_fails _ l.args.n l.loop-d.d c.loop-d-test.true (tested c.before ∙ c.if-not-at_element.true))
+    sym (walk_fails _ c.args.n c.loop-d.d c.loop-d-test.true (tested c.before ∙ c.if-not-at_element.true))
 
 loop-again : tie.Need-loop-d-preserved invariant-loop decreases-loop
 loop-again c =
-    let l = c in
-    (omega arith, walk_more _ l.loop-d.d l.loop-d.invariant.1 (tested c.before ∙ c.if-not-at_element.false))
+    (omega arith, walk_more _ c.loop-d.d c.loop-d.invariant.1 (tested c.before ∙ c.if-not-at_element.false))
 
 returns-2 : tie.Need-returns invariant-loop decreases-loop
 returns-2 c =
-    let l = c in
-    sym (walk_ends _ l.args.n l.loop-d.d l.loop-d.invariant.0 c.loop-d-test.false l.loop-d.invariant.1)
+    sym (walk_ends _ c.args.n c.loop-d.d c.loop-d.invariant.0 c.loop-d-test.false c.loop-d.invariant.1)
 
 pub at_each_element_spec : {M : Type 1} → statement M
 at_each_element_spec =

@@ -25,16 +25,14 @@ index c = omega (arith, c.statement_count-count.ensures.0, c.loop-left.invariant
 
 -- the whole, at a turn: the arrays that are lent are those of the model
 turned : (c : tie.After-does_hold invariant-loop decreases-loop) →
-    let l = c in
-    let a = l.args in
-    let i = l.statement_count-count.result - l.loop-left.left in
+    let a = c.args in
+    let i = c.statement_count-count.result - c.loop-left.left in
     failing_from (holds (assigned a.m)) a.q 0 ≡ cond c.does_hold.result (failing_from (holds (assigned a.m)) a.q (i + 1)) (No i)
 turned c =
-    let l = c in
-    let a = l.args in
-    let i = l.statement_count-count.result - l.loop-left.left in
+    let a = c.args in
+    let i = c.statement_count-count.result - c.loop-left.left in
     let f = holds (assigned a.m) in
-    l.loop-left.invariant.1 ∙ failing_turn f a.q i idle (index c.before.before.before.before.before.before)
+    c.loop-left.invariant.1 ∙ failing_turn f a.q i idle (index c.before.before.before.before.before.before)
     ∙ ap (λ b. cond b (failing_from f a.q (i + 1)) (No i)) (sym c.does_hold.ensures)
 
 returns : tie.Need-returns-then-not-does_hold invariant-loop decreases-loop
@@ -42,18 +40,16 @@ returns c = sym (rw (c.if-not-does_hold.true) at (turned c.before))
 
 loop-again : tie.Need-loop-left-preserved invariant-loop decreases-loop
 loop-again c =
-    let l = c in
-    let count = l.statement_count-count.result in
-    let next : count - l.loop-left.left + 1 ≡ count - (l.loop-left.left - 1) = omega (arith, l.loop-left.invariant.0, c.loop-left-test.true) in (
+    let count = c.statement_count-count.result in
+    let next : count - c.loop-left.left + 1 ≡ count - (c.loop-left.left - 1) = omega (arith, c.loop-left.invariant.0, c.loop-left-test.true) in (
       omega arith,
       rw (c.if-not-does_hold.false) at (turned c.before)
-          ∙ ap (failing_from (holds (assigned l.args.m)) l.args.q) next,
+          ∙ ap (failing_from (holds (assigned c.args.m)) c.args.q) next,
     )
 
 returns-2 : tie.Need-returns invariant-loop decreases-loop
 returns-2 c =
-    let l = c in
-    sym (l.loop-left.invariant.1 ∙ failing_end _ l.args.q _ (omega (arith, l.statement_count-count.ensures.0, c.loop-left-test.false)))
+    sym (c.loop-left.invariant.1 ∙ failing_end _ c.args.q _ (omega (arith, c.statement_count-count.ensures.0, c.loop-left-test.false)))
 
 pub first_failing_spec : {M : Type 1} → statement M
 first_failing_spec =

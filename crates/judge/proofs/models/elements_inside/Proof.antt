@@ -22,19 +22,16 @@ decreases-loop n elements names a₀ a = names - a
 returns : tie.Need-returns-then-n-d invariant-loop decreases-loop
 unfolding elements_inside
 returns c =
-    let l = c in
-    sym (walk_fails _ l.args.names l.loop-a.a c.loop-a-test.true (le-ltb _ _ (rw c.element-d.ensures at c.if-n-d.true)))
+    sym (walk_fails _ c.args.names c.loop-a.a c.loop-a-test.true (le-ltb _ _ (rw c.element-d.ensures at c.if-n-d.true)))
 
 loop-again : tie.Need-loop-a-preserved invariant-loop decreases-loop
 loop-again c =
-    let l = c in
-    (omega arith, walk_more _ l.loop-a.a l.loop-a.invariant.1 (lt-ltb _ _ (rw c.element-d.ensures at c.if-n-d.false)))
+    (omega arith, walk_more _ c.loop-a.a c.loop-a.invariant.1 (lt-ltb _ _ (rw c.element-d.ensures at c.if-n-d.false)))
 
 returns-2 : tie.Need-returns invariant-loop decreases-loop
 unfolding elements_inside
 returns-2 c =
-    let l = c in
-    sym (walk_ends _ l.args.names l.loop-a.a l.loop-a.invariant.0 c.loop-a-test.false l.loop-a.invariant.1)
+    sym (walk_ends _ c.args.names c.loop-a.a c.loop-a.invariant.0 c.loop-a-test.false c.loop-a.invariant.1)
 
 pub elements_inside_spec : {M : Type 1} → statement M
 elements_inside_spec =

@@ -7,8 +7,7 @@ use Rattle.judge.proofs.models.has.Tie as tie
 
 returns-2 : tie.Need-returns
 returns-2 c =
-    let s = c in
-    sym (bit_past s.args.mask 32 s.args.x.0 s.ranges.mask.fits c.if-i-lt32.false)
+    sym (bit_past c.args.mask 32 c.args.x.0 c.ranges.mask.fits c.if-i-lt32.false)
 
 pub has_spec : {M : Type 1} → statement M
 has_spec = tie.close (tie.spec (λ c. search rules) (λ c. search rules) (λ c. search rules) returns-2)

@@ -20,9 +20,8 @@ returns-2 c =
 returns-3 : tie.Need-returns
 unfolding is_model
 returns-3 c =
-    let t = c in
     let inside = c.if-not-elements_inside.false in
-    rw (le-leb _ max_terms t.if-n-gt-MAX_TERMS.false, sym t.elements_inside.ensures ∙ inside) c.masks_inside.ensures
+    rw (le-leb _ max_terms c.if-n-gt-MAX_TERMS.false, sym c.elements_inside.ensures ∙ inside) c.masks_inside.ensures
 
 pub is_model_spec : {M : Type 1} → statement M
 is_model_spec = tie.close (tie.spec returns (λ c κs. search rules) returns-2 (λ c κs. search rules) returns-3)

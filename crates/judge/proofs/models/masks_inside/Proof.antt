@@ -19,26 +19,23 @@ abbrev decreases-loop : tie.decreases-loop-d
 decreases-loop n masks sets d₀ d = n - d
 
 -- the test at a turn is that of the element's mask
-tested : (c : tie.After-below invariant-loop decreases-loop) → let l = c in
-    ltb (get_or l.args.masks.now l.loop-d.d 0) (2 ^ l.args.sets) ≡ c.below.result
+tested : (c : tie.After-below invariant-loop decreases-loop) →
+    ltb (get_or c.args.masks.now c.loop-d.d 0) (2 ^ c.args.sets) ≡ c.below.result
 tested c = sym (c.below.ensures ∙ ap (λ k. ltb k (2 ^ c.args.sets)) c.mask.ensures)
 
 returns : tie.Need-returns-then-not-below invariant-loop decreases-loop
 unfolding masks_inside
 returns c =
-    let l = c in
-    sym (walk_fails _ l.args.n l.loop-d.d c.loop-d-test.true (tested c.before ∙ c.if-not-below.true))
+    sym (walk_fails _ c.args.n c.loop-d.d c.loop-d-test.true (tested c.before ∙ c.if-not-below.true))
 
 loop-again : tie.Need-loop-d-preserved invariant-loop decreases-loop
 loop-again c =
-    let l = c in
-    (omega arith, walk_more _ l.loop-d.d l.loop-d.invariant.1 (tested c.before ∙ c.if-not-below.false))
+    (omega arith, walk_more _ c.loop-d.d c.loop-d.invariant.1 (tested c.before ∙ c.if-not-below.false))
 
 returns-2 : tie.Need-returns invariant-loop decreases-loop
 unfolding masks_inside
 returns-2 c =
-    let l = c in
-    sym (walk_ends _ l.args.n l.loop-d.d l.loop-d.invariant.0 c.loop-d-test.false l.loop-d.invariant.1)
+    sym (walk_ends _ c.args.n c.loop-d.d c.loop-d.invariant.0 c.loop-d-test.false c.loop-d.invariant.1)
 
 pub masks_inside_spec : {M : Type 1} → statement M
 masks_inside_spec =

@@ -47,10 +47,9 @@ goes : (c : tie.After-line_step-r invariant-loop decreases-loop) →
 goes c =
     let l = c.loop-at in
     let a = c.args in
-    let p = c in
-    let n = p.piece_length-n.result in
+    let n = c.piece_length-n.result in
     l.invariant.1
-    ∙ walk_goes a.most l.at l.r a.lines.now (left a.lines.now l.at) refl n p.piece_length-n.ensures (behind c.before.before (λ e. omega arith)).0
+    ∙ walk_goes a.most l.at l.r a.lines.now (left a.lines.now l.at) refl n c.piece_length-n.ensures (behind c.before.before (λ e. omega arith)).0
     ∙ ap (λ x. stood_then l.at x (lines_from a.most (l.at + n + 1) x (pieces line_end (drop (l.at + n + 1) a.lines.now)))) (sym c.line_step-r.ensures)
 
 returns-2 : tie.Need-returns-then-not-can_stand invariant-loop decreases-loop

@@ -13,8 +13,7 @@ use Rattle.lines.proofs.steps.value_line.Tie as tie
 -- a space stands behind the first word
 behind : (c : tie.Else-n-line) → c.piece_length-n.result < length c.args.line.now
 behind c =
-    let p = c in
-    omega (arith, p.piece_length-n.ensures, until_within space p.args.line.now, c.if-n-line.false)
+    omega (arith, c.piece_length-n.ensures, until_within space c.args.line.now, c.if-n-line.false)
 
 returns : tie.Need-returns-then-n-line
 returns c =

@@ -30,8 +30,7 @@ returns c =
 -- a space stands behind the word
 behind : (c : tie.Else-n-rest invariant-loop decreases-loop) → c.piece_length-n.result < length c.loop-rest.rest.now
 behind c =
-    let p = c in
-    omega (arith, p.piece_length-n.ensures, until_within space p.loop-rest.rest.now, c.if-n-rest.false)
+    omega (arith, c.piece_length-n.ensures, until_within space c.loop-rest.rest.now, c.if-n-rest.false)
 
 loop-less : tie.Need-loop-rest-smaller invariant-loop decreases-loop
 loop-less c =

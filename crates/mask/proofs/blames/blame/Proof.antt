@@ -37,43 +37,40 @@ returns-7 c = rw (← c.unpack-p.ensures, c.in-6.is, c.only-x.ensures)
 returns-8 : tie.Need-returns-in-7
 unfolding row_of blamed
 returns-8 c =
-    let k = c in
     rw (
-      ← k.unpack-p.ensures,
+      ← c.unpack-p.ensures,
       c.in-7.is,
-      ← k.bit-in_x.ensures,
-      ← k.bit-in_y.ensures,
-      ← k.only-x.ensures,
-      ← k.only-y.ensures,
-      ← k.only-z.ensures,
+      ← c.bit-in_x.ensures,
+      ← c.bit-in_y.ensures,
+      ← c.only-x.ensures,
+      ← c.only-y.ensures,
+      ← c.only-z.ensures,
     ) c.two_or_three.ensures
 
 returns-9 : tie.Need-returns-in-8
 unfolding row_of blamed
 returns-9 c =
-    let k = c in
     rw (
-      ← k.unpack-p.ensures,
+      ← c.unpack-p.ensures,
       c.in-8.is,
-      ← k.bit-in_x.ensures,
-      ← k.bit-in_y.ensures,
-      ← k.only-x.ensures,
-      ← k.only-y.ensures,
-      ← k.only-z.ensures,
+      ← c.bit-in_x.ensures,
+      ← c.bit-in_y.ensures,
+      ← c.only-x.ensures,
+      ← c.only-y.ensures,
+      ← c.only-z.ensures,
     ) c.two_or_three-in-8.ensures
 
 returns-10 : tie.Need-returns-in-9
 unfolding row_of blamed
 returns-10 c =
-    let k = c in
     rw (
-      ← k.unpack-p.ensures,
+      ← c.unpack-p.ensures,
       c.in-9.is,
-      ← k.bit-in_x.ensures,
-      ← k.bit-in_y.ensures,
-      ← k.only-x.ensures,
-      ← k.only-y.ensures,
-      ← k.only-z.ensures,
+      ← c.bit-in_x.ensures,
+      ← c.bit-in_y.ensures,
+      ← c.only-x.ensures,
+      ← c.only-y.ensures,
+      ← c.only-z.ensures,
     ) c.two_or_three-in-9.ensures
 
 returns-11 : tie.Need-returns-in_default

@@ -79,34 +79,30 @@ larger c =
 
 masks_again : tie.Need-masks-preserved invariant-entries decreases-entries invariant-masks decreases-masks
 masks_again c =
-    let k = c in
-    let w = walked k.before.before.before.before.before in
+    let w = walked c.before.before.before.before.before in
     let l = w.before in
     let a = (given l).args in
     let e = c.raise-m.ensures in
-    let t = rw k.in-Next.is at k.next_mask.ensures in
+    let t = rw c.in-Next.is at c.next_mask.ensures in
     let n = c.note_up_to-noted in
-    let met = meets_raised l.width-bits.result a.class a.entries.now l.masks.m _ w.entries.i n.result (raised_bit k.before.before.before.before.before) c.back_to-i.result w.entries.invariant n.ensures.1 n.ensures.0 t.0 t.1 c.back_to-i.ensures.0 c.back_to-i.ensures.1 in
-    ((larger c.before.before.before.before).1, rw e (t.2 (meets_all (rows_of_entries a.entries.now) a.class) l.masks.invariant.1 (decided k.before.before.before.before.before.before.before.before)), rw e met, n.ensures.1)
+    let met = meets_raised l.width-bits.result a.class a.entries.now l.masks.m _ w.entries.i n.result (raised_bit c.before.before.before.before.before) c.back_to-i.result w.entries.invariant n.ensures.1 n.ensures.0 t.0 t.1 c.back_to-i.ensures.0 c.back_to-i.ensures.1 in
+    ((larger c.before.before.before.before).1, rw e (t.2 (meets_all (rows_of_entries a.entries.now) a.class) l.masks.invariant.1 (decided c.before.before.before.before.before.before.before.before)), rw e met, n.ensures.1)
 
 returns : tie.Need-returns-then-i-entries invariant-entries decreases-entries invariant-masks decreases-masks
 returns c =
-    let w = c in
-    let l = w in
-    let a = (given l.before.before).args in
-    let m = l.masks.m in
-    let below = rw l.width-bits.ensures at l.masks.invariant.0 in
-    let met = walk_end a.class a.entries.now m w.entries.i w.entries.invariant c.if-i-entries.true in
-    let no_smaller = reasons_below 2 (omega arith) (IsOfNoUse (meets_all (rows_of_entries a.entries.now) a.class)) (reason_at l.masks.why) m l.masks.invariant.1.1 in
+    let a = (given c.before.before).args in
+    let m = c.masks.m in
+    let below = rw c.width-bits.ensures at c.masks.invariant.0 in
+    let met = walk_end a.class a.entries.now m c.entries.i c.entries.invariant c.if-i-entries.true in
+    let no_smaller = reasons_below 2 (omega arith) (IsOfNoUse (meets_all (rows_of_entries a.entries.now) a.class)) (reason_at c.masks.why) m c.masks.invariant.1.1 in
     sym (ap smallest_of (least_mask_one (2 ^ min a.sets 32) (rows_of_entries a.entries.now) a.class (some m) (below, met, no_smaller)))
 
 returns-2 : tie.Need-returns-in-Over invariant-entries decreases-entries invariant-masks decreases-masks
 returns-2 c =
-    let k = c in
-    let l = (walk k.before.before.before.before.before).before in
+    let l = (walk c.before.before.before.before.before).before in
     let a = (given l).args in
     let t = rw (c.in-Over.is, l.width-bits.ensures) at c.next_mask.ensures in
-    sym (ap smallest_of (least_mask_one (2 ^ min a.sets 32) (rows_of_entries a.entries.now) a.class none (t (meets_all (rows_of_entries a.entries.now) a.class) l.masks.invariant.1 (decided k.before.before.before))))
+    sym (ap smallest_of (least_mask_one (2 ^ min a.sets 32) (rows_of_entries a.entries.now) a.class none (t (meets_all (rows_of_entries a.entries.now) a.class) l.masks.invariant.1 (decided c.before.before.before))))
 
 pub smallest_mask_spec : {M : Type 1} → statement M
 smallest_mask_spec =

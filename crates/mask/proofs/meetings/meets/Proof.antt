@@ -17,10 +17,9 @@ returns c =
 returns-2 : tie.Need-returns
 unfolding row_of
 returns-2 c =
-    let b = c in
-    let a = b.args in
+    let a = c.args in
     c.passes.ensures ∙ ap (λ p. fits a.m (bit a.class) (row_of_parts p).test) (rw c.row_in.ensures at c.unpack.ensures)
-    ∙ sym (entry_meets a.class a.m a.entry (asked a.class a.entry (sym b.is_asked.ensures ∙ b.if-not-is_asked.false)))
+    ∙ sym (entry_meets a.class a.m a.entry (asked a.class a.entry (sym c.is_asked.ensures ∙ c.if-not-is_asked.false)))
 
 pub meets_spec : {M : Type 1} → statement M
 meets_spec =

@@ -21,8 +21,7 @@ small c = rw (c.loop-q.invariant.above c.loop-q.q (omega arith)) (c.requires.1.s
 returns : tie.Need-returns-then-first-at invariant-loop decreases-loop
 returns c =
     let l = c.loop-q in
-    let s = c in
-    noting_end s.args.low s.args.i s.args.first.now s.args.bits l.q l.first s.requires.1 l.invariant (λ h. c.if-first-at.true)
+    noting_end c.args.low c.args.i c.args.first.now c.args.bits l.q l.first c.requires.1 l.invariant (λ h. c.if-first-at.true)
 
 loop-again : tie.Need-loop-q-preserved invariant-loop decreases-loop
 loop-again c =
@@ -33,8 +32,7 @@ loop-again c =
 returns-2 : tie.Need-returns invariant-loop decreases-loop
 returns-2 c =
     let l = c.loop-q in
-    let s = c in
-    noting_end s.args.low s.args.i s.args.first.now s.args.bits l.q l.first s.requires.1 l.invariant (λ h. absurd (omega arith))
+    noting_end c.args.low c.args.i c.args.first.now c.args.bits l.q l.first c.requires.1 l.invariant (λ h. absurd (omega arith))
 
 pub note_spec : {M : Type 1} → statement M
 note_spec =

@@ -19,12 +19,11 @@ decreases-loop m why₀ decided sets c₀ q₀ why c q = sets - q
 -- the reasons at entry are those of the loop
 returns : tie.Need-returns-then-not-bit invariant-loop decreases-loop
 returns c =
-    let k = c in
-    let a = k.args in
-    let l = k.loop-q in
+    let a = c.args in
+    let l = c.loop-q in
     let lacks = sym c.bit-then-bit.ensures ∙ c.if-not-bit.true in
     subst (λ v. TrialIs a.sets a.m a.decided v (set l.why l.q l.c) (Next l.q)) l.invariant.1
-    (trial_next a.m l.why a.decided a.sets k.requires.1 l.q l.c k.requires.0 c.loop-q-test.true lacks l.invariant.2)
+    (trial_next a.m l.why a.decided a.sets c.requires.1 l.q l.c c.requires.0 c.loop-q-test.true lacks l.invariant.2)
 
 loop-again : tie.Need-loop-q-preserved invariant-loop decreases-loop
 loop-again c =

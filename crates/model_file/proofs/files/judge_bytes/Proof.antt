@@ -7,15 +7,13 @@ use Rattle.model_file.proofs.files.judge_bytes.Tie as tie
 
 returns : tie.Need-returns-in-Refused
 returns c =
-    let r = c in
-    let a = r.args in
-    sym (bytes_refused a.q a.model.now r.read_model-read.ensures c.in-Refused.is)
+    let a = c.args in
+    sym (bytes_refused a.q a.model.now c.read_model-read.ensures c.in-Refused.is)
 
 returns-2 : tie.Need-returns-in-Accepted
 returns-2 c =
-    let r = c in
-    let a = r.args in
-    c.judge_model.ensures ∙ sym (bytes_said a.q a.model.now r.read_model-read.ensures c.in-Accepted.is)
+    let a = c.args in
+    c.judge_model.ensures ∙ sym (bytes_said a.q a.model.now c.read_model-read.ensures c.in-Accepted.is)
 
 pub judge_bytes_spec : {M : Type 1} → statement M
 judge_bytes_spec = tie.close (tie.spec (λ c κs. search rules) (λ c. search rules) (λ c. search rules) (λ c κs. search rules) returns returns-2)

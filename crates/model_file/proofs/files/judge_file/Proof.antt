@@ -7,15 +7,13 @@ use Rattle.model_file.proofs.files.judge_file.Tie as tie
 
 returns : tie.Need-returns-in-Refused
 returns c =
-    let r = c in
-    let a = r.args in
-    sym (file_refused a.question.now a.model.now r.read_question-read.ensures c.in-Refused.is)
+    let a = c.args in
+    sym (file_refused a.question.now a.model.now c.read_question-read.ensures c.in-Refused.is)
 
 returns-2 : tie.Need-returns-in-Accepted
 returns-2 c =
-    let r = c in
-    let a = r.args in
-    c.judge_bytes.ensures ∙ sym (file_accepted a.question.now a.model.now r.read_question-read.ensures c.in-Accepted.is)
+    let a = c.args in
+    c.judge_bytes.ensures ∙ sym (file_accepted a.question.now a.model.now c.read_question-read.ensures c.in-Accepted.is)
 
 pub judge_file_spec : {M : Type 1} → statement M
 judge_file_spec = tie.close (tie.spec (λ c κs. search rules) (λ c. search rules) (λ c. search rules) (λ c κs. search rules) returns returns-2)

@@ -10,9 +10,8 @@ use Rattle.model_file.proofs.reads.model_in.Tie as tie
 
 returns : tie.Need-returns
 returns c =
-    let s = c in
-    let E = s.args.elements in
-    let bytes = s.args.bytes.now in
+    let E = c.args.elements in
+    let bytes = c.args.bytes.now in
     let same : 1 + E - 1 ≡ E = omega arith in
     parts E bytes {n = length bytes - (1 + E)} same (omega (arith, length-drop (1 + E) bytes)) (rw (c.byte_at-size.ensures, c.numbers_in-points.ensures, c.masks_in-masks.ensures))
 

@@ -23,17 +23,16 @@ decreases-loop q elements sets count terms₀ i₀ terms i = count - i
 
 -- the check of the whole, at a turn
 turned : (c : tie.In-loop-i invariant-loop decreases-loop) →
-    let l = c in let q = l.args.q in let s = (get_or q.table l.loop-i.i idle).statement in
-    check_from q 0 q.elements ≡ accepted_then (admitted_at l.loop-i.i (admission q.elements q.sets l.loop-i.terms s)) Refused (check_from q (l.loop-i.i + 1) (l.loop-i.terms + witness s))
+    let q = c.args.q in let s = (get_or q.table c.loop-i.i idle).statement in
+    check_from q 0 q.elements ≡ accepted_then (admitted_at c.loop-i.i (admission q.elements q.sets c.loop-i.terms s)) Refused (check_from q (c.loop-i.i + 1) (c.loop-i.terms + witness s))
 turned c =
-    let l = c in
-    let long : length l.args.q.table ≡ 64 = search table_long in
-    l.loop-i.invariant.2 ∙ turn l.args.q l.loop-i.i l.loop-i.terms idle c.loop-i-test.true (omega arith)
+    let long : length c.args.q.table ≡ 64 = search table_long in
+    c.loop-i.invariant.2 ∙ turn c.args.q c.loop-i.i c.loop-i.terms idle c.loop-i-test.true (omega arith)
 
 -- what the test of the statement came to
 told : (c : tie.After-at invariant-loop decreases-loop) (x : Check) → c.at.result ≡ x →
-    let l = c in let q = l.args.q in
-    admitted_at l.loop-i.i (admission q.elements q.sets l.loop-i.terms (get_or q.table l.loop-i.i idle).statement) ≡ x
+    let q = c.args.q in
+    admitted_at c.loop-i.i (admission q.elements q.sets c.loop-i.terms (get_or q.table c.loop-i.i idle).statement) ≡ x
 told c x e = ap (admitted_at _) (sym c.admit.ensures) ∙ sym c.at.ensures ∙ e
 
 returns : tie.Need-returns-in-Refused invariant-loop decreases-loop
@@ -44,12 +43,11 @@ few c = rw c.witness_of-terms.ensures (witness_small _)
 
 loop-again : tie.Need-loop-i-preserved invariant-loop decreases-loop
 loop-again c =
-    let l = c in
     let admitted = told c.before.before _ c.in-Accepted.is in (
       omega arith,
       omega (arith, few c),
       (rw admitted at (turned c.before.before.before.before.before))
-          ∙ ap (λ w. check_from l.args.q (l.loop-i.i + 1) (l.loop-i.terms + w)) (sym c.witness_of-terms.ensures),
+          ∙ ap (λ w. check_from c.args.q (c.loop-i.i + 1) (c.loop-i.terms + w)) (sym c.witness_of-terms.ensures),
     )
 
 pub check_statements_spec : {M : Type 1} → statement M

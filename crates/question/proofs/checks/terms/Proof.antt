@@ -20,27 +20,24 @@ few c = rw c.witness_of-total.ensures (witness_small _)
 
 loop-again : tie.Need-loop-i-preserved invariant-loop decreases-loop
 loop-again c =
-    let l = c in
-    let q = l.args.q in
+    let q = c.args.q in
     let long : length q.table ≡ 64 = search table_long in (
       omega arith,
       omega (arith, few c),
-      l.loop-i.invariant.2 ∙ terms_turn q l.loop-i.i l.loop-i.total idle c.if-count-i.false (omega arith)
-          ∙ ap (λ w. terms_from q (l.loop-i.i + 1) (l.loop-i.total + w)) (sym c.witness_of-total.ensures),
+      c.loop-i.invariant.2 ∙ terms_turn q c.loop-i.i c.loop-i.total idle c.if-count-i.false (omega arith)
+          ∙ ap (λ w. terms_from q (c.loop-i.i + 1) (c.loop-i.total + w)) (sym c.witness_of-total.ensures),
     )
 
 returns : tie.Need-returns-after-loop-i invariant-loop decreases-loop
 returns c =
-    let l = c in
-    let q = l.args.q in
+    let q = c.args.q in
     let long : length q.table ≡ 64 = search table_long in
-    sym (l.loop-i.invariant.2 ∙ terms_end q l.loop-i.i l.loop-i.total (statements_full q l.loop-i.i (omega arith)))
+    sym (c.loop-i.invariant.2 ∙ terms_end q c.loop-i.i c.loop-i.total (statements_full q c.loop-i.i (omega arith)))
 
 returns-2 : tie.Need-returns-then-count-i invariant-loop decreases-loop
 returns-2 c =
-    let l = c in
-    let q = l.args.q in
-    sym (l.loop-i.invariant.2 ∙ terms_end q l.loop-i.i l.loop-i.total (statements_end q l.loop-i.i c.if-count-i.true))
+    let q = c.args.q in
+    sym (c.loop-i.invariant.2 ∙ terms_end q c.loop-i.i c.loop-i.total (statements_end q c.loop-i.i c.if-count-i.true))
 
 pub terms_spec : {M : Type 1} → statement M
 terms_spec =

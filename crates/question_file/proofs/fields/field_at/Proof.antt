@@ -16,23 +16,20 @@ framed c x e = let a = c.args in ap (λ d. frame_of QuestionFile d 0 (drop a.at 
 
 say-requires : tie.Need-say-requires
 say-requires c κs =
-    let f = c in
-    let a = f.args in
-    within QuestionFile (due_at a.at) 0 a.bytes.now a.at _ _ (framed f.before _ c.in-Sound.is)
+    let a = c.args in
+    within QuestionFile (due_at a.at) 0 a.bytes.now a.at _ _ (framed c.before _ c.in-Sound.is)
 
 returns : tie.Need-returns-in-Refused
 unfolding said
 returns c =
-    let f = c in
-    let a = f.args in
-    sym (ap (λ x. framed_said x (drop a.at a.bytes.now) a.at) (framed f.before _ c.in-Refused.is))
+    let a = c.args in
+    sym (ap (λ x. framed_said x (drop a.at a.bytes.now) a.at) (framed c.before _ c.in-Refused.is))
 
 returns-2 : tie.Need-returns-in-Sound
 unfolding said
 returns-2 c =
-    let f = c in
-    let a = f.args in
-    c.say.ensures ∙ sym (ap (λ x. framed_said x (drop a.at a.bytes.now) a.at) (framed f.before.before _ c.in-Sound.is))
+    let a = c.args in
+    c.say.ensures ∙ sym (ap (λ x. framed_said x (drop a.at a.bytes.now) a.at) (framed c.before.before _ c.in-Sound.is))
 
 pub field_at_spec : {M : Type 1} → statement M
 field_at_spec = tie.close (tie.spec (λ c κs. search rules) (λ c κs. search rules) (λ c. search rules) (λ c. search rules) say-requires returns returns-2)

@@ -34,15 +34,13 @@ returns-2 c = sym (rw (ne_eqb _ _ c.if-tag-eq1.false, eq-eqb _ _ c.if-tag-eq127.
 
 returns-3 : tie.Need-returns-in-Stated
 returns-3 c =
-    let e = c in
-    let made = sym e.statement_of.ensures ∙ c.in-Stated.is in
-    sym (rw (ne_eqb _ _ e.if-tag-eq1.false, ne_eqb _ _ e.if-tag-eq127.false, made) at (asked e.before.before.before.before))
+    let made = sym c.statement_of.ensures ∙ c.in-Stated.is in
+    sym (rw (ne_eqb _ _ c.if-tag-eq1.false, ne_eqb _ _ c.if-tag-eq127.false, made) at (asked c.before.before.before.before))
 
 returns-4 : tie.Need-returns-in-NotStated
 returns-4 c =
-    let e = c in
-    let made = sym e.statement_of.ensures ∙ c.in-NotStated.is in
-    sym (rw (ne_eqb _ _ e.if-tag-eq1.false, ne_eqb _ _ e.if-tag-eq127.false, made) at (asked e.before.before.before.before))
+    let made = sym c.statement_of.ensures ∙ c.in-NotStated.is in
+    sym (rw (ne_eqb _ _ c.if-tag-eq1.false, ne_eqb _ _ c.if-tag-eq127.false, made) at (asked c.before.before.before.before))
 
 pub say_spec : {M : Type 1} → statement M
 say_spec =

@@ -33,27 +33,24 @@ step c x e = let l = c.loop-elements in ap (put l.at l.q) (sym c.field_at.ensure
 -- names: refused by 5, or the next field with them
 returns : tie.Need-returns-in-Refused-check_names invariant-loop decreases-loop
 returns c =
-    let f = c in
-    let l = f.loop-elements in
+    let l = c.loop-elements in
     let said = c.in-Names in
-    c.refuse_file.ensures ∙ sym (stop_reached _ l.at l.q l.invariant.0 _ (step f.before.before.before.before _ said.is ∙ put_names_refused l.at l.q said.next said.elements said.sets _ (sym c.check_names.ensures ∙ c.in-Refused-check_names.is)))
+    c.refuse_file.ensures ∙ sym (stop_reached _ l.at l.q l.invariant.0 _ (step c.before.before.before.before _ said.is ∙ put_names_refused l.at l.q said.next said.elements said.sets _ (sym c.check_names.ensures ∙ c.in-Refused-check_names.is)))
 
 loop-less : tie.Need-loop-elements-smaller-in-Names invariant-loop decreases-loop
 loop-less c =
-    let f = c in
-    let l = f.loop-elements in
+    let l = c.loop-elements in
     let said = c.in-Names in
-    let m = moved _ l.at l.q l.invariant.0 _ _ (step f.before.before.before.before _ said.is ∙ put_names l.at l.q said.next said.elements said.sets (sym c.check_names.ensures ∙ c.in_default.is)) in
+    let m = moved _ l.at l.q l.invariant.0 _ _ (step c.before.before.before.before _ said.is ∙ put_names l.at l.q said.next said.elements said.sets (sym c.check_names.ensures ∙ c.in_default.is)) in
     omega (arith, m.0, m.1)
 
 loop-again : tie.Need-loop-elements-preserved-in-Names invariant-loop decreases-loop
 loop-again c =
-    let f = c in
-    let l = f.loop-elements in
+    let l = c.loop-elements in
     let checked = sym c.check_names.ensures ∙ c.in_default.is in
     let said = c.in-Names in
     rw c.declare-q.ensures
-    (more_reached _ l.at l.q l.invariant.0 _ _ (step f.before.before.before.before _ said.is ∙ put_names l.at l.q said.next said.elements said.sets checked), kept_names _ _ (names_keep l.at said.elements said.sets checked).0)
+    (more_reached _ l.at l.q l.invariant.0 _ _ (step c.before.before.before.before _ said.is ∙ put_names l.at l.q said.next said.elements said.sets checked), kept_names _ _ (names_keep l.at said.elements said.sets checked).0)
 
 -- a statement: what the test of it came to, where T is kept by adding
 tested : (c : tie.After-at invariant-loop decreases-loop) (x : Check) → c.at.result ≡ x → let l = c.loop-elements in added_at l.at l.q c.in-Stated.s ≡ x
@@ -63,9 +60,8 @@ tested c x e =
 
 returns-2 : tie.Need-returns-in-Refused-at invariant-loop decreases-loop
 returns-2 c =
-    let f = c in
-    let l = f.loop-elements in
-    c.refuse_file-in-Refused-at.ensures ∙ sym (stop_reached _ l.at l.q l.invariant.0 _ (step f.before.before.before.before.before _ c.in-Stated.is ∙ put_stated_refused l.at l.q _ _ _ (tested c.before.before _ c.in-Refused-at.is)))
+    let l = c.loop-elements in
+    c.refuse_file-in-Refused-at.ensures ∙ sym (stop_reached _ l.at l.q l.invariant.0 _ (step c.before.before.before.before.before _ c.in-Stated.is ∙ put_stated_refused l.at l.q _ _ _ (tested c.before.before _ c.in-Refused-at.is)))
 
 -- a statement that is accepted
 accepted : (c : tie.After-witness_of-total invariant-loop decreases-loop) → let l = c.loop-elements in added_at l.at l.q c.in-Stated.s ≡ Accepted
@@ -76,30 +72,26 @@ has_room c = let l = c.loop-elements in added_room l.at l.q _ (accepted c)
 
 loop-less-2 : tie.Need-loop-elements-smaller invariant-loop decreases-loop
 loop-less-2 c =
-    let f = c in
-    let l = f.loop-elements in
-    let m = moved _ l.at l.q l.invariant.0 _ _ (step f.before.before.before.before.before _ c.in-Stated.is ∙ put_stated l.at l.q _ _ (accepted c)) in
+    let l = c.loop-elements in
+    let m = moved _ l.at l.q l.invariant.0 _ _ (step c.before.before.before.before.before _ c.in-Stated.is ∙ put_stated l.at l.q _ _ (accepted c)) in
     omega (arith, m.0, m.1)
 
 loop-again-2 : tie.Need-loop-elements-preserved invariant-loop decreases-loop
 loop-again-2 c =
-    let f = c in
-    let l = f.loop-elements in
+    let l = c.loop-elements in
     rw c.witness_of-total.ensures
-    (more_reached _ l.at l.q l.invariant.0 _ _ (step f.before.before.before.before.before _ c.in-Stated.is ∙ put_stated l.at l.q _ _ (accepted c)), kept_more l.q l.total l.invariant.1 _ (has_room c))
+    (more_reached _ l.at l.q l.invariant.0 _ _ (step c.before.before.before.before.before _ c.in-Stated.is ∙ put_stated l.at l.q _ _ (accepted c)), kept_more l.q l.total l.invariant.1 _ (has_room c))
 
 returns-4 : tie.Need-returns-in-Ended invariant-loop decreases-loop
 returns-4 c =
-    let f = c in
-    let l = f.loop-elements in
-    sym (whole_reached c.args.bytes.now l.at l.q l.invariant.0 c.in-Ended.place (step f.before.before _ c.in-Ended.is) (omega arith))
+    let l = c.loop-elements in
+    sym (whole_reached c.args.bytes.now l.at l.q l.invariant.0 c.in-Ended.place (step c.before.before _ c.in-Ended.is) (omega arith))
 
 -- a frame that is refused
 returns-5 : tie.Need-returns-in-Refused invariant-loop decreases-loop
 returns-5 c =
-    let f = c in
-    let l = f.loop-elements in
-    c.refuse_file-in-Refused.ensures ∙ ap refused_file c.new-in-Refused.ensures ∙ sym (stop_reached _ l.at l.q l.invariant.0 _ (step f.before.before.before _ c.in-Refused.is))
+    let l = c.loop-elements in
+    c.refuse_file-in-Refused.ensures ∙ ap refused_file c.new-in-Refused.ensures ∙ sym (stop_reached _ l.at l.q l.invariant.0 _ (step c.before.before.before _ c.in-Refused.is))
 
 pub read_question_spec : {M : Type 1} → statement M
 read_question_spec =
@@ -138,9 +130,8 @@ read_question_spec =
     (λ c κs. search rules)
     (λ c κs. search rules)
     (λ c.
-    let f = c in
-    let l = f.loop-elements in
-    cc (extra_reached c.args.bytes.now l.at l.q l.invariant.0 c.in-Ended.place (step f.before.before.before.before _ c.in-Ended.is) (omega arith)))
+    let l = c.loop-elements in
+    cc (extra_reached c.args.bytes.now l.at l.q l.invariant.0 c.in-Ended.place (step c.before.before.before.before _ c.in-Ended.is) (omega arith)))
     returns-4
     (λ c. search rules)
     (λ c κs. search rules)

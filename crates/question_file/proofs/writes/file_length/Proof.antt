@@ -25,26 +25,24 @@ ends : (c : tie.After-field_length-2 invariant-loop decreases-loop) → c.field_
 ends c = omega (arith, c.field_length.ensures ∙ names_length, c.field_length-2.ensures ∙ end_length)
 
 -- the statement's field by the table
-sized : (c : tie.After-field_length-total invariant-loop decreases-loop) → let l = c in c.field_length-total.result ≡ length (statement_bytes (get_or l.args.q.table l.loop-i.i idle).statement)
+sized : (c : tie.After-field_length-total invariant-loop decreases-loop) → c.field_length-total.result ≡ length (statement_bytes (get_or c.args.q.table c.loop-i.i idle).statement)
 sized c = c.field_length-total.ensures ∙ ap (λ t. field_length QuestionFile t 0) c.tag.ensures ∙ statement_length (get_or c.args.q.table c.loop-i.i idle).statement
 
 few : (c : tie.After-field_length-total invariant-loop decreases-loop) → c.field_length-total.result ≤ 6
-few c = let l = c in omega (arith, sized c, (field (get_or l.args.q.table l.loop-i.i idle).statement).few)
+few c = omega (arith, sized c, (field (get_or c.args.q.table c.loop-i.i idle).statement).few)
 
 loop-again : tie.Need-loop-i-preserved invariant-loop decreases-loop
 loop-again c =
-    let l = c in
-    let q = l.args.q in
-    let s = (get_or q.table l.loop-i.i idle).statement in
+    let q = c.args.q in
+    let s = (get_or q.table c.loop-i.i idle).statement in
     let long : length q.table ≡ 64 = search table_long in
-    let turn = ap length (bytes_turn q l.loop-i.i idle c.loop-i-test.true (omega arith)) ∙ length-append (statement_bytes s) (bytes_from q (l.loop-i.i + 1)) in
-    (omega arith, omega (arith, few c), l.loop-i.invariant.2 ∙ omega (arith, turn, sized c))
+    let turn = ap length (bytes_turn q c.loop-i.i idle c.loop-i-test.true (omega arith)) ∙ length-append (statement_bytes s) (bytes_from q (c.loop-i.i + 1)) in
+    (omega arith, omega (arith, few c), c.loop-i.invariant.2 ∙ omega (arith, turn, sized c))
 
 returns : tie.Need-returns invariant-loop decreases-loop
 returns c =
-    let l = c in
-    let ended = ap length (bytes_end l.args.q l.loop-i.i c.loop-i-test.false) in
-    sym (l.loop-i.invariant.2 ∙ omega (arith, ended))
+    let ended = ap length (bytes_end c.args.q c.loop-i.i c.loop-i-test.false) in
+    sym (c.loop-i.invariant.2 ∙ omega (arith, ended))
 
 pub file_length_spec : {M : Type 1} → statement M
 file_length_spec =

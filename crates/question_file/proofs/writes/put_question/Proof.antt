@@ -21,9 +21,8 @@ begun : (c : tie.After-slice_known-2-1) →
 unfolding file_bytes
 begun c =
     let p = c.put_field-first in
-    let s = c in
-    let a = s.args in
-    let whole = written 0x01 (a.q.elements ∷ a.q.sets ∷ []) a.buf.now (omega arith) (omega (arith, s.requires.1)) in
+    let a = c.args in
+    let whole = written 0x01 (a.q.elements ∷ a.q.sets ∷ []) a.buf.now (omega arith) (omega (arith, c.requires.1)) in
     run_first (names_bytes a.q.elements a.q.sets) (statements_bytes (statements a.q) ++ end_bytes) (p.ensures.0 ∙ whole.0) (p.ensures.1 ∙ whole.1)
 
 -- the statements' fields and 7F fit behind it
@@ -31,9 +30,8 @@ first_fits : (c : tie.After-slice_known-2-1) →
     let p = c.put_field-first in let a = c.args in
     (length p.new.buf ≡ length a.buf.now) × (p.result + (length (statements_bytes (statements a.q)) + 3) ≤ length p.new.buf)
 first_fits c =
-    let s = c in
-    let room = run_room (begun c) s.requires.1 in
-    (room.0, omega (arith, room.0, room.1, s.requires.1, length-append (statements_bytes (statements s.args.q)) end_bytes))
+    let room = run_room (begun c) c.requires.1 in
+    (room.0, omega (arith, room.0, room.1, c.requires.1, length-append (statements_bytes (statements c.args.q)) end_bytes))
 
 -- the statements' fields are written
 most : (c : tie.After-slice_known-3-1) →
@@ -52,20 +50,18 @@ last_fits : (c : tie.After-slice_known-3-1) →
     let buf = put_mid f.result (length f.new.buf - f.result) f.new.buf p.new.buf in
     (length buf ≡ length a.buf.now) × (f.result + p.result + 3 ≤ length buf)
 last_fits c =
-    let s = c in
-    let room = run_room (most c) s.requires.1 in
-    (room.0, omega (arith, room.0, room.1, s.requires.1))
+    let room = run_room (most c) c.requires.1 in
+    (room.0, omega (arith, room.0, room.1, c.requires.1))
 
 returns : tie.Need-returns
 returns c =
     let p = c.put_field in
-    let m = c in
-    let f = m.put_field-first in
-    let buf = put_mid f.result (length f.new.buf - f.result) f.new.buf m.put_statements-middle.new.buf in
-    let at = f.result + m.put_statements-middle.result in
+    let f = c.put_field-first in
+    let buf = put_mid f.result (length f.new.buf - f.result) f.new.buf c.put_statements-middle.new.buf in
+    let at = f.result + c.put_statements-middle.result in
     let part = take (length buf - at) (drop at buf) in
-    let room : 3 ≤ length part = simp (length-take, length-drop) (omega (arith, (last_fits m.before.before.before.before.before.before).1)) in
-    (run_end (run_on end_bytes [] p.new.buf (most m.before.before.before.before.before.before) (p.ensures.1 ∙ (written 0x7f [] part (omega arith) (omega arith)).1))).1
+    let room : 3 ≤ length part = simp (length-take, length-drop) (omega (arith, (last_fits c.before.before.before.before.before.before).1)) in
+    (run_end (run_on end_bytes [] p.new.buf (most c.before.before.before.before.before.before) (p.ensures.1 ∙ (written 0x7f [] part (omega arith) (omega arith)).1))).1
 
 pub put_question_spec : {M : Type 1} → statement M
 put_question_spec =

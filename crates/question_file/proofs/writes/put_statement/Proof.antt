@@ -34,9 +34,8 @@ same_length c = search rules
 
 returns : tie.Need-returns
 returns c =
-    let n = c in
-    let a = n.args in
-    let body = named n.before.before.before.before.before.before in
+    let a = c.args in
+    let body = named c.before.before.before.before.before.before in
     let whole = written (tag_of a.s) (body_of a.s) a.buf.now (omega (arith, (field a.s).few)) (omega arith) in
     let f = c.put_field.ensures in
     (f.0 ∙ ap (λ b. field_count b (length a.buf.now)) body ∙ whole.0 ∙ omega arith, f.1 ∙ ap₂ (λ t b. field_over t b a.buf.now) c.tag.ensures body ∙ whole.1)

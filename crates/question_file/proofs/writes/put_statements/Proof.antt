@@ -21,37 +21,32 @@ decreases-loop buf₀ q count at₀ i₀ buf at i = count - i
 
 -- at a turn the next statement's field is still to come, and fits
 turned : (c : tie.In-loop-i invariant-loop decreases-loop) →
-    let l = c in let a = l.args in let q = a.q in
-    Run (statements_bytes (statements q)) a.buf.now (statement_bytes (get_or q.table l.loop-i.i idle).statement ++ bytes_from q (l.loop-i.i + 1)) l.loop-i.buf l.loop-i.at
+    let a = c.args in let q = a.q in
+    Run (statements_bytes (statements q)) a.buf.now (statement_bytes (get_or q.table c.loop-i.i idle).statement ++ bytes_from q (c.loop-i.i + 1)) c.loop-i.buf c.loop-i.at
 turned c =
-    let l = c in
-    let q = l.args.q in
+    let q = c.args.q in
     let long : length q.table ≡ 64 = search table_long in
-    rw (bytes_turn q l.loop-i.i idle c.loop-i-test.true (omega arith)) at l.loop-i.invariant.1
+    rw (bytes_turn q c.loop-i.i idle c.loop-i-test.true (omega arith)) at c.loop-i.invariant.1
 
 fits : (c : tie.In-loop-i invariant-loop decreases-loop) →
-    let l = c in let a = l.args in
-    (length l.loop-i.buf ≡ length a.buf.now) × (l.loop-i.at + length (statement_bytes (get_or a.q.table l.loop-i.i idle).statement) ≤ length l.loop-i.buf)
+    let a = c.args in
+    (length c.loop-i.buf ≡ length a.buf.now) × (c.loop-i.at + length (statement_bytes (get_or a.q.table c.loop-i.i idle).statement) ≤ length c.loop-i.buf)
 fits c =
-    let l = c in
-    let a = l.args in
-    let s = (get_or a.q.table l.loop-i.i idle).statement in
-    let room = run_room (turned c) l.requires.1 in
-    (room.0, omega (arith, room.0, room.1, length-append (statement_bytes s) (bytes_from a.q (l.loop-i.i + 1)), l.requires.1))
+    let a = c.args in
+    let s = (get_or a.q.table c.loop-i.i idle).statement in
+    let room = run_room (turned c) c.requires.1 in
+    (room.0, omega (arith, room.0, room.1, length-append (statement_bytes s) (bytes_from a.q (c.loop-i.i + 1)), c.requires.1))
 
 loop-again : tie.Need-loop-i-preserved invariant-loop decreases-loop
 loop-again c =
-    let t = c in
-    let l = t in
-    let q = l.args.q in
+    let q = c.args.q in
     let p = c.put_statement-at in
-    let s = (get_or q.table l.loop-i.i idle).statement in
-    (omega arith, rw p.ensures.0 (run_on (statement_bytes s) (bytes_from q (l.loop-i.i + 1)) p.new.buf (turned t.before.before.before.before.before) p.ensures.1))
+    let s = (get_or q.table c.loop-i.i idle).statement in
+    (omega arith, rw p.ensures.0 (run_on (statement_bytes s) (bytes_from q (c.loop-i.i + 1)) p.new.buf (turned c.before.before.before.before.before) p.ensures.1))
 
 returns : tie.Need-returns invariant-loop decreases-loop
 returns c =
-    let l = c in
-    run_end (rw (bytes_end l.args.q l.loop-i.i c.loop-i-test.false) at l.loop-i.invariant.1)
+    run_end (rw (bytes_end c.args.q c.loop-i.i c.loop-i-test.false) at c.loop-i.invariant.1)
 
 pub put_statements_spec : {M : Type 1} → statement M
 put_statements_spec =

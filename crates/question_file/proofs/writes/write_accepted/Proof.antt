@@ -18,10 +18,9 @@ returns c =
 
 returns-2 : tie.Need-returns
 returns-2 c =
-    let f = c in
-    let a = f.args in
-    let room = le-ltb (length a.buf.now) (length (question_bytes a.q)) (omega (arith, f.file_length-length.ensures, c.if-buf-length.false)) in
-    rw room (ap Count f.file_length-length.ensures, c.put_question.ensures)
+    let a = c.args in
+    let room = le-ltb (length a.buf.now) (length (question_bytes a.q)) (omega (arith, c.file_length-length.ensures, c.if-buf-length.false)) in
+    rw room (ap Count c.file_length-length.ensures, c.put_question.ensures)
 
 pub write_accepted_spec : {M : Type 1} → statement M
 write_accepted_spec =

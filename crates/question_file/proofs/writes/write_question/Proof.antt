@@ -19,9 +19,8 @@ returns-2 : tie.Need-returns-in-Accepted
 unfolding written written_over
 returns-2 c =
     let w = c.write_accepted in
-    let k = c in
-    let a = k.args in
-    let r = sym k.check.ensures ∙ k.in-Accepted.is in
+    let a = c.args in
+    let r = sym c.check.ensures ∙ c.in-Accepted.is in
     (w.ensures.0 ∙ sym (ap (λ x. checked_then x (fitted (question_bytes a.q) (length a.buf.now))) r), w.ensures.1 ∙ sym (ap (λ x. checked_over x (fitted_over (question_bytes a.q) a.buf.now) a.buf.now) r))
 
 pub write_question_spec : {M : Type 1} → statement M

@@ -23,31 +23,26 @@ loop-holds c =
     (search rules, omega (arith, start, packed_count q))
 
 -- the rows of the statement at a turn are some of those left
-turned : (c : tie.After-row_count-total invariant-loop decreases-loop) → let l = c in let a = l.args in
-    count_from a.q a.terms l.loop-i.i ≡ c.row_count-total.result + count_from a.q a.terms (l.loop-i.i + 1)
+turned : (c : tie.After-row_count-total invariant-loop decreases-loop) → let a = c.args in
+    count_from a.q a.terms c.loop-i.i ≡ c.row_count-total.result + count_from a.q a.terms (c.loop-i.i + 1)
 turned c =
-    let l = c in
-    let a = l.args in
-    count_turn a.q a.terms l.loop-i.i idle (omega (arith, c.loop-i-test.true, l.statement_count-count.ensures.0))
-    ∙ ap (λ n. n + count_from a.q a.terms (l.loop-i.i + 1)) (sym c.row_count-total.ensures)
+    let a = c.args in
+    count_turn a.q a.terms c.loop-i.i idle (omega (arith, c.loop-i-test.true, c.statement_count-count.ensures.0))
+    ∙ ap (λ n. n + count_from a.q a.terms (c.loop-i.i + 1)) (sym c.row_count-total.ensures)
 
 add_total : tie.Need-overflow_add-total invariant-loop decreases-loop
 add_total c =
-    let l = c in
-    let e = l in
-    let stated = l.statement_count-count.ensures in
-    omega (arith, turned c, l.loop-i.invariant.1, packed_few e.args.q (omega (arith, stated.0, stated.1)) (omega (arith, e.requires.0, e.requires.1)))
+    let stated = c.statement_count-count.ensures in
+    omega (arith, turned c, c.loop-i.invariant.1, packed_few c.args.q (omega (arith, stated.0, stated.1)) (omega (arith, c.requires.0, c.requires.1)))
 
 loop-again : tie.Need-loop-i-preserved invariant-loop decreases-loop
 loop-again c =
-    let l = c in
-    (omega arith, omega (arith, turned c, l.loop-i.invariant.1))
+    (omega arith, omega (arith, turned c, c.loop-i.invariant.1))
 
 returns : tie.Need-returns invariant-loop decreases-loop
 returns c =
-    let l = c in
-    let a = l.args in
-    omega (arith, l.loop-i.invariant.1, count_end a.q a.terms l.loop-i.i (omega (arith, c.loop-i-test.false, l.statement_count-count.ensures.0)))
+    let a = c.args in
+    omega (arith, c.loop-i.invariant.1, count_end a.q a.terms c.loop-i.i (omega (arith, c.loop-i-test.false, c.statement_count-count.ensures.0)))
 
 pub count_rows_spec : {M : Type 1} → statement M
 count_rows_spec =

@@ -29,64 +29,57 @@ loop-holds c =
 
 -- at a turn the rows of the next statement come first of those left
 turned : (c : tie.In-loop-i invariant-loop decreases-loop) →
-    let l = c in let a = l.args in let s = (get_or a.q.table l.loop-i.i idle).statement in
-    Run (packed_rows a.q) a.rows.now (statement_rows a.terms l.loop-i.witness s ++ rows_from a.q a.terms (l.loop-i.i + 1) (l.loop-i.witness + witness s)) l.loop-i.rows l.loop-i.at
+    let a = c.args in let s = (get_or a.q.table c.loop-i.i idle).statement in
+    Run (packed_rows a.q) a.rows.now (statement_rows a.terms c.loop-i.witness s ++ rows_from a.q a.terms (c.loop-i.i + 1) (c.loop-i.witness + witness s)) c.loop-i.rows c.loop-i.at
 turned c =
-    let l = c in
-    let a = l.args in
-    subst (λ rest. Run (packed_rows a.q) a.rows.now rest l.loop-i.rows l.loop-i.at)
-    (from_turn a.q a.terms l.loop-i.i l.loop-i.witness idle (omega (arith, c.loop-i-test.true, l.statement_count-stated.ensures.0)))
-    l.loop-i.invariant.2
+    let a = c.args in
+    subst (λ rest. Run (packed_rows a.q) a.rows.now rest c.loop-i.rows c.loop-i.at)
+    (from_turn a.q a.terms c.loop-i.i c.loop-i.witness idle (omega (arith, c.loop-i-test.true, c.statement_count-stated.ensures.0)))
+    c.loop-i.invariant.2
 
 -- so they fit behind those written
 room : (c : tie.In-loop-i invariant-loop decreases-loop) →
-    let l = c in let a = l.args in
-    (length l.loop-i.rows ≡ length a.rows.now) × (l.loop-i.at + length (statement_rows a.terms l.loop-i.witness (get_or a.q.table l.loop-i.i idle).statement) ≤ length a.rows.now)
+    let a = c.args in
+    (length c.loop-i.rows ≡ length a.rows.now) × (c.loop-i.at + length (statement_rows a.terms c.loop-i.witness (get_or a.q.table c.loop-i.i idle).statement) ≤ length a.rows.now)
 room c =
-    let l = c in
-    let a = l.args in
-    let s = (get_or a.q.table l.loop-i.i idle).statement in
-    let fits = run_room (turned c) l.requires.2 in
-    (fits.0, omega (arith, fits.1, length-append (statement_rows a.terms l.loop-i.witness s) (rows_from a.q a.terms (l.loop-i.i + 1) (l.loop-i.witness + witness s)), l.requires.2))
+    let a = c.args in
+    let s = (get_or a.q.table c.loop-i.i idle).statement in
+    let fits = run_room (turned c) c.requires.2 in
+    (fits.0, omega (arith, fits.1, length-append (statement_rows a.terms c.loop-i.witness s) (rows_from a.q a.terms (c.loop-i.i + 1) (c.loop-i.witness + witness s)), c.requires.2))
 
 -- the next witness has a number of one byte
 small : (c : tie.In-loop-i invariant-loop decreases-loop) → c.loop-i.witness < 256
 small c =
-    let l = c in
-    let e = l in
-    omega (arith, l.loop-i.invariant.1, terms_start e.args.q, e.requires.0, e.requires.1, l.statement_count-stated.ensures.1, c.loop-i-test.true)
+    omega (arith, c.loop-i.invariant.1, terms_start c.args.q, c.requires.0, c.requires.1, c.statement_count-stated.ensures.1, c.loop-i-test.true)
 
 few : (c : tie.After-witness_of invariant-loop decreases-loop) → c.witness_of.result ≤ 1
 few c = rw c.witness_of.ensures (witness_small _)
 
 put-statement-requires : tie.Need-put_statement-at-requires invariant-loop decreases-loop
 put-statement-requires c κs =
-    let e = c in
     let fits = room c.before.before.before in
-    (e.requires.1, simp (length-take, length-drop) (omega (arith, fits.0, fits.1)), small c.before.before.before)
+    (c.requires.1, simp (length-take, length-drop) (omega (arith, fits.0, fits.1)), small c.before.before.before)
 
 add_at : tie.Need-overflow_add-at invariant-loop decreases-loop
 add_at c = let fits = room c.before.before.before.before.before.before in omega (arith, c.put_statement-at.ensures.0, fits.0, fits.1)
 
 loop-again : tie.Need-loop-i-preserved invariant-loop decreases-loop
 loop-again c =
-    let l = c in
-    let a = l.args in
+    let a = c.args in
     let put = c.put_statement-at in
     let own = c.witness_of in
-    let s = (get_or a.q.table l.loop-i.i idle).statement in
-    let rest : ℕ → List ℕ = λ v. rows_from a.q a.terms (l.loop-i.i + 1) (l.loop-i.witness + v) in (
+    let s = (get_or a.q.table c.loop-i.i idle).statement in
+    let rest : ℕ → List ℕ = λ v. rows_from a.q a.terms (c.loop-i.i + 1) (c.loop-i.witness + v) in (
       omega arith,
-      omega (arith, l.loop-i.invariant.1, few c.before.before.before.before),
-      run_next (statement_rows a.terms l.loop-i.witness s) (rest (witness s)) (rest own.result) put.new.rows put.result
+      omega (arith, c.loop-i.invariant.1, few c.before.before.before.before),
+      run_next (statement_rows a.terms c.loop-i.witness s) (rest (witness s)) (rest own.result) put.new.rows put.result
           (turned c.before.before.before.before.before.before) put.ensures.1 put.ensures.0 (ap rest own.ensures),
     )
 
 returns : tie.Need-returns invariant-loop decreases-loop
 returns c =
-    let l = c in
-    let a = l.args in
-    (run_end (subst (λ rest. Run (packed_rows a.q) a.rows.now rest l.loop-i.rows l.loop-i.at) (from_end a.q a.terms l.loop-i.i l.loop-i.witness (omega (arith, c.loop-i-test.false, l.statement_count-stated.ensures.0))) l.loop-i.invariant.2)).1
+    let a = c.args in
+    (run_end (subst (λ rest. Run (packed_rows a.q) a.rows.now rest c.loop-i.rows c.loop-i.at) (from_end a.q a.terms c.loop-i.i c.loop-i.witness (omega (arith, c.loop-i-test.false, c.statement_count-stated.ensures.0))) c.loop-i.invariant.2)).1
 
 pub put_rows_spec : {M : Type 1} → statement M
 put_rows_spec =

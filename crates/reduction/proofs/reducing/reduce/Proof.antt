@@ -7,16 +7,14 @@ use Rattle.reduction.proofs.reducing.reduce.Tie as tie
 
 returns : tie.Need-returns-in-Refused
 returns c =
-    let e = c in
-    let left = refused e.args.q e.args.rows.now _ (sym c.check-table.ensures ∙ c.in-Refused.is) in
+    let left = refused c.args.q c.args.rows.now _ (sym c.check-table.ensures ∙ c.in-Refused.is) in
     (sym left.0, sym left.1)
 
 returns-2 : tie.Need-returns-in-Accepted
 returns-2 c =
-    let k = c in
-    let a = k.args in
+    let a = c.args in
     let w = c.write_rows.ensures in
-    let same = as_table a.q a.rows.now (sym k.check-table.ensures ∙ c.in-Accepted.is) in
+    let same = as_table a.q a.rows.now (sym c.check-table.ensures ∙ c.in-Accepted.is) in
     (w.0 ∙ sym same.0, w.1 ∙ sym same.1)
 
 pub reduce_spec : {M : Type 1} → statement M

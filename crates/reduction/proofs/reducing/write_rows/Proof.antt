@@ -12,20 +12,17 @@ use Rattle.reduction.proofs.reducing.write_rows.Tie as tie
 
 returns-2 : tie.Need-returns-then-rows-count
 returns-2 c =
-    let t = c in
-    let a = t.args in
+    let a = c.args in
     let few : terms_of a.q ≤ max_terms = omega arith in
     let left = short a.q a.rows.now few (omega (arith, c.count_rows-count.ensures, c.if-rows-count.true)) in
     (ap Refused c.new-then-rows-count.ensures ∙ sym left.0, sym left.1)
 
 returns-3 : tie.Need-returns
 returns-3 c =
-    let n = c in
-    let t = n in
-    let a = t.args in
+    let a = c.args in
     let few : terms_of a.q ≤ max_terms = omega arith in
-    let left = whole a.q a.rows.now few (omega (arith, n.count_rows-count.ensures, c.if-rows-count.false)) in
-    (ap Count n.count_rows-count.ensures ∙ sym left.0, c.put_rows.ensures ∙ sym left.1)
+    let left = whole a.q a.rows.now few (omega (arith, c.count_rows-count.ensures, c.if-rows-count.false)) in
+    (ap Count c.count_rows-count.ensures ∙ sym left.0, c.put_rows.ensures ∙ sym left.1)
 
 pub write_rows_spec : {M : Type 1} → statement M
 write_rows_spec =

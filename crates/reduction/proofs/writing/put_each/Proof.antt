@@ -20,23 +20,21 @@ decreases-loop kind first second third terms rows₀ c₀ rows c = terms - c
 
 loop-again : tie.Need-loop-c-preserved invariant-loop decreases-loop
 loop-again c =
-    let l = c in
-    let a = l.args in
+    let a = c.args in
     let all = each_term a.kind a.first a.second a.third a.terms in
     let long = each_length a.kind a.first a.second a.third a.terms in
-    let value = c.pack.ensures ∙ sym (each_at a.kind a.first a.second a.third a.terms l.loop-c.c c.loop-c-test.true) in (
+    let value = c.pack.ensures ∙ sym (each_at a.kind a.first a.second a.third a.terms c.loop-c.c c.loop-c-test.true) in (
       omega arith,
-      length-set l.loop-c.rows l.loop-c.c c.pack.result ∙ l.loop-c.invariant.1,
-      copied_in all a.rows.now l.loop-c.rows l.loop-c.c c.pack.result (omega (arith, long)) (omega arith) l.loop-c.invariant.2 value,
+      length-set c.loop-c.rows c.loop-c.c c.pack.result ∙ c.loop-c.invariant.1,
+      copied_in all a.rows.now c.loop-c.rows c.loop-c.c c.pack.result (omega (arith, long)) (omega arith) c.loop-c.invariant.2 value,
     )
 
 returns : tie.Need-returns invariant-loop decreases-loop
 returns c =
-    let l = c in
-    let a = l.args in
+    let a = c.args in
     let all = each_term a.kind a.first a.second a.third a.terms in
     let long = each_length a.kind a.first a.second a.third a.terms in
-    (omega arith, l.loop-c.invariant.2 ∙ ap (λ b. over b a.rows.now) (take_all l.loop-c.c all (omega (arith, long))))
+    (omega arith, c.loop-c.invariant.2 ∙ ap (λ b. over b a.rows.now) (take_all c.loop-c.c all (omega (arith, long))))
 
 pub put_each_spec : {M : Type 1} → statement M
 put_each_spec =

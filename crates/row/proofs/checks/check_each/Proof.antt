@@ -17,17 +17,15 @@ decreases-loop rows terms sets i₀ i = length rows - i
 
 returns : tie.Need-returns-then-not-row_good invariant-loop decreases-loop
 returns c =
-    let l = c in
-    let a = l.args in
+    let a = c.args in
     let bad = sym c.row_good.ensures ∙ c.if-not-row_good.true in
-    ap Refused c.new.ensures ∙ sym (l.loop-i.invariant.1 ∙ (rw bad at (turn a.terms a.sets a.rows.now l.loop-i.i c.loop-i-test.true)))
+    ap Refused c.new.ensures ∙ sym (c.loop-i.invariant.1 ∙ (rw bad at (turn a.terms a.sets a.rows.now c.loop-i.i c.loop-i-test.true)))
 
 loop-again : tie.Need-loop-i-preserved invariant-loop decreases-loop
 loop-again c =
-    let l = c in
-    let a = l.args in
+    let a = c.args in
     let good = sym c.row_good.ensures ∙ c.if-not-row_good.false in
-    (omega arith, l.loop-i.invariant.1 ∙ (rw good at (turn a.terms a.sets a.rows.now l.loop-i.i c.loop-i-test.true)))
+    (omega arith, c.loop-i.invariant.1 ∙ (rw good at (turn a.terms a.sets a.rows.now c.loop-i.i c.loop-i-test.true)))
 
 pub check_each_spec : {M : Type 1} → statement M
 check_each_spec =

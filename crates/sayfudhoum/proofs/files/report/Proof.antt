@@ -50,14 +50,13 @@ fits c =
 
 returns-2 : tie.Need-returns
 returns-2 c =
-    let m = c in
-    let f = m.put_field-first in
+    let f = c.put_field-first in
     let a = c.args in
     let buf = f.new.buf in
     let part = take (length buf - f.result) (drop f.result buf) in
-    let behind : 3 ≤ length part = simp (length-take, length-drop) (omega (arith, (fits m.before.before.before.before.before).1)) in
-    let all = (run_end (run_on end_bytes [] c.put_field.new.buf (begun m.before.before.before.before.before) (c.put_field.ensures.1 ∙ (written 0x7f [] part (omega arith) (omega arith)).1))).1 in
-    let whole = fits_whole (report_bytes a.refusal) a.buf.now (omega (arith, room m.before.before.before.before.before, report_length a.refusal)) in
+    let behind : 3 ≤ length part = simp (length-take, length-drop) (omega (arith, (fits c.before.before.before.before.before).1)) in
+    let all = (run_end (run_on end_bytes [] c.put_field.new.buf (begun c.before.before.before.before.before) (c.put_field.ensures.1 ∙ (written 0x7f [] part (omega arith) (omega arith)).1))).1 in
+    let whole = fits_whole (report_bytes a.refusal) a.buf.now (omega (arith, room c.before.before.before.before.before, report_length a.refusal)) in
     (ap Count (nine c.before.before.before.before.before.before.before.before.before.before.before.before.before.before ∙ sym (report_length a.refusal)) ∙ sym whole.0, all ∙ sym whole.1)
 
 pub report_spec : {M : Type 1} → statement M

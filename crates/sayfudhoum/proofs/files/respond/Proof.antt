@@ -12,20 +12,18 @@ use Rattle.sayfudhoum.proofs.files.respond.Tie as tie
 returns : tie.Need-returns-in-Refused
 unfolding responded responded_over
 returns c =
-    let s = c in
-    let is = sym (refused_response _ _ s.read_question-asked.ensures _ c.in-Refused.is) in
-    let old = s.args.buf.now in
+    let is = sym (refused_response _ _ c.read_question-asked.ensures _ c.in-Refused.is) in
+    let old = c.args.buf.now in
     let w = c.report.ensures in
     (w.0 ∙ ap (λ l. fitted l (length old)) is, w.1 ∙ ap (λ l. fitted_over l old) is)
 
 returns-2 : tie.Need-returns-in-Accepted
 unfolding responded responded_over
 returns-2 c =
-    let s = c in
-    let is = sym (accepted_response _ _ s.read_question-asked.ensures c.in-Accepted.is) in
-    let old = s.args.buf.now in
+    let is = sym (accepted_response _ _ c.read_question-asked.ensures c.in-Accepted.is) in
+    let old = c.args.buf.now in
     let w = c.answer_question.ensures in
-    let a = answered_accepted _ old (question_checked _ _ s.read_question-asked.ensures c.in-Accepted.is) in
+    let a = answered_accepted _ old (question_checked _ _ c.read_question-asked.ensures c.in-Accepted.is) in
     (w.0 ∙ a.0 ∙ ap (λ l. fitted l (length old)) is, w.1 ∙ a.1 ∙ ap (λ l. fitted_over l old) is)
 
 pub respond_spec : {M : Type 1} → statement M

@@ -15,8 +15,7 @@ decreases-loop entries asked₀ i₀ asked i = length entries - i
 
 loop-again : tie.Need-loop-i-preserved invariant-loop decreases-loop
 loop-again c =
-    let l = c in
-    (omega arith, enough_turn l.args.entries.now l.loop-i.asked l.loop-i.i c.term_asked-one.result (omega arith) c.term_asked-one.ensures l.loop-i.invariant.1)
+    (omega arith, enough_turn c.args.entries.now c.loop-i.asked c.loop-i.i c.term_asked-one.result (omega arith) c.term_asked-one.ensures c.loop-i.invariant.1)
 
 pub terms_asked_spec : {M : Type 1} → statement M
 terms_asked_spec =

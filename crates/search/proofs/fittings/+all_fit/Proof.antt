@@ -79,13 +79,10 @@ module _ (t : ℕ) where
 
   returns : lts.Need-returns-then-left-eq0 claims here all-fit.Post invariant-loop decreases-loop
   returns c =
-      let call = c in
-      let e = call in
-      let s = e in
-      let a = s.args in (
-        λ r. subst (λ n. NothingFits a.entries.now a.fixed n a.groups (all_terms a.ahead)) (as_before e.before.before.before.before)
-            (subst (λ n. NothingFits a.entries.now a.fixed n a.groups n) s.requires.1.1.1.1 (call.settled_fits.ensures.0 r)),
-        call.settled_fits.ensures.1,
+      let a = c.args in (
+        λ r. subst (λ n. NothingFits a.entries.now a.fixed n a.groups (all_terms a.ahead)) (as_before c.before.before.before.before)
+            (subst (λ n. NothingFits a.entries.now a.fixed n a.groups n) c.requires.1.1.1.1 (c.settled_fits.ensures.0 r)),
+        c.settled_fits.ensures.1,
       )
 
   -- some term is left, and it is one of twelve
@@ -93,7 +90,7 @@ module _ (t : ℕ) where
   some_left c = let a = c.args in a_term_left a.ahead.term a.ahead.left c.if-left-eq0.false
 
   room : (c : lts.Else-left-eq0 claims here all-fit.Post invariant-loop decreases-loop) → c.args.ahead.term < max_terms
-  room c = let s = c in one_of_twelve s.args.ahead.term s.args.ahead.left c.if-left-eq0.false s.requires.1.0.few_terms
+  room c = one_of_twelve c.args.ahead.term c.args.ahead.left c.if-left-eq0.false c.requires.1.0.few_terms
 
   -- with the next term there are as many
   all : (c : lts.Else-left-eq0 claims here all-fit.Post invariant-loop decreases-loop) → let a = c.args in all_terms a.ahead ≡ a.ahead.term + 1 + (a.ahead.left - 1)
@@ -108,21 +105,18 @@ module _ (t : ℕ) where
 
   skip-requires : lts.Need-all_fit-requires claims here all-fit.Post invariant-loop decreases-loop
   skip-requires c κs =
-      let e = c in
-      let p = e.requires in (
-        omega (arith, some_left e.before.before.before, p.0),
-        (ready e.before.before.before p.1.0.remembered, (p.1.1.0, (omega (arith, p.1.1.1.0), same_terms e.before.before.before))),
+      let p = c.requires in (
+        omega (arith, some_left c.before.before.before, p.0),
+        (ready c.before.before.before p.1.0.remembered, (p.1.1.0, (omega (arith, p.1.1.1.0), same_terms c.before.before.before))),
       )
 
   returns-2 : lts.Need-returns-then-not-has_term claims here all-fit.Post invariant-loop decreases-loop
   returns-2 c =
-      let call = c in
-      let asked = call.has_term in
-      let e = call in
-      let a = e.args in (
-        λ r. fits_past a.entries.now a.fixed a.ahead.term (all_terms a.ahead) (sym asked.ensures ∙ call.if-not-has_term.true) a.groups
-            (subst (NothingFits a.entries.now a.fixed (a.ahead.term + 1) a.groups) (sym (all e.before.before.before.before.before.before)) (call.all_fit.ensures.0 r)),
-        call.all_fit.ensures.1,
+      let asked = c.has_term in
+      let a = c.args in (
+        λ r. fits_past a.entries.now a.fixed a.ahead.term (all_terms a.ahead) (sym asked.ensures ∙ c.if-not-has_term.true) a.groups
+            (subst (NothingFits a.entries.now a.fixed (a.ahead.term + 1) a.groups) (sym (all c.before.before.before.before.before.before)) (c.all_fit.ensures.0 r)),
+        c.all_fit.ensures.1,
       )
 
   -- what stands before the loop, and the call's start
@@ -145,36 +139,30 @@ module _ (t : ℕ) where
 
   part-requires : lts.Need-part_fits-requires claims here all-fit.Post invariant-loop decreases-loop
   part-requires c κs =
-      let turn = c in
-      let l = turn in
-      let s = start l.before.before in
-      let group = get_or s.args.groups.terms l.loop-k.k 0 in
-      let small = joined_small group s.args.ahead.term (room (first l.before.before)) (s.requires.1.1.0.small l.loop-k.k turn.loop-k-test.true) in
-      (ready (first l.before.before) l.loop-k.invariant.2, subst (λ n. bit_or group n < group_count) (sym (own_is l.before.before)) small)
+      let s = start c.before.before in
+      let group = get_or s.args.groups.terms c.loop-k.k 0 in
+      let small = joined_small group s.args.ahead.term (room (first c.before.before)) (s.requires.1.1.0.small c.loop-k.k c.loop-k-test.true) in
+      (ready (first c.before.before) c.loop-k.invariant.2, subst (λ n. bit_or group n < group_count) (sym (own_is c.before.before)) small)
 
   in-group-requires : lts.Need-all_fit-requires-then-part_fits claims here all-fit.Post invariant-loop decreases-loop
   in-group-requires c κs =
-      let turn = c in
-      let l = turn in
-      let e = first l.before.before.before.before.before.before.before.before in
-      let s = start l.before.before.before.before.before.before.before.before in
+      let e = first c.before.before.before.before.before.before.before.before in
+      let s = start c.before.before.before.before.before.before.before.before in
       let p = s.requires in
       let next = c.with_term-more in (
         omega (arith, some_left e, p.0),
         (
           ready e c.part_fits.ensures.1,
           (
-            groups_joined s.args.groups s.args.ahead.term (room e) p.1.1.0 l.loop-k.k turn.loop-k-test.true (inside turn.before.before.before.before.before.before.before) next.result next.ensures,
-            (omega (arith, p.1.1.1.0, joined_count s.args.groups l.loop-k.k s.args.ahead.term turn.loop-k-test.true next.result next.ensures), same_terms e),
+            groups_joined s.args.groups s.args.ahead.term (room e) p.1.1.0 c.loop-k.k c.loop-k-test.true (inside c.before.before.before.before.before.before.before) next.result next.ensures,
+            (omega (arith, p.1.1.1.0, joined_count s.args.groups c.loop-k.k s.args.ahead.term c.loop-k-test.true next.result next.ensures), same_terms e),
           ),
         ),
       )
 
   loop-again : lts.Need-loop-k-preserved claims here all-fit.Post invariant-loop decreases-loop
   loop-again c =
-      let turn = c in
-      let l = turn in
-      let a = (start l.before.before.before.before.before.before).args in
+      let a = (start c.before.before.before.before.before.before).args in
       let known = before a.fixed.asked a.ahead.term in
       let more = before a.fixed.asked (a.ahead.term + 1) in
       let rows = rows_of_entries a.entries.now in
@@ -182,53 +170,49 @@ module _ (t : ℕ) where
       ⊎_elim
       (λ w. (
         omega arith,
-        tried_stuck fits (2 ^ a.fixed.sets) rows known a.groups.terms a.groups.count (all_terms a.ahead) a.ahead.term more (before_next a.fixed.asked a.ahead.term) l.loop-k.k turn.loop-k-test.true (inside turn.before.before.before.before.before) l.loop-k.invariant.1
-            (with_term a.groups l.loop-k.k a.ahead.term).terms refl
-            (fits_joined a.entries.now a.fixed (a.ahead.term + 1) (all_terms a.ahead) a.groups l.loop-k.k a.ahead.term turn.loop-k-test.true w.with_term-more.result w.with_term-more.ensures
-            (subst (NothingFits a.entries.now a.fixed (a.ahead.term + 1) w.with_term-more.result) (sym (all (first l.before.before.before.before.before.before))) (w.all_fit-then-part_fits.ensures.0 w.if-all_fit.false))),
+        tried_stuck fits (2 ^ a.fixed.sets) rows known a.groups.terms a.groups.count (all_terms a.ahead) a.ahead.term more (before_next a.fixed.asked a.ahead.term) c.loop-k.k c.loop-k-test.true (inside c.before.before.before.before.before) c.loop-k.invariant.1
+            (with_term a.groups c.loop-k.k a.ahead.term).terms refl
+            (fits_joined a.entries.now a.fixed (a.ahead.term + 1) (all_terms a.ahead) a.groups c.loop-k.k a.ahead.term c.loop-k-test.true w.with_term-more.result w.with_term-more.ensures
+            (subst (NothingFits a.entries.now a.fixed (a.ahead.term + 1) w.with_term-more.result) (sym (all (first c.before.before.before.before.before.before))) (w.all_fit-then-part_fits.ensures.0 w.if-all_fit.false))),
         subst (Memo a.entries.now a.fixed.sets) (sym w.memo-is) w.all_fit-then-part_fits.ensures.1,
       ))
       (λ w. (
         omega arith,
-        tried_lacks fits (2 ^ a.fixed.sets) rows known a.groups.terms a.groups.count (all_terms a.ahead) a.ahead.term more (before_next a.fixed.asked a.ahead.term) l.loop-k.k turn.loop-k-test.true (inside turn.before.before.before.before.before) l.loop-k.invariant.1
-            (subst (λ n. NoPart a.entries.now a.fixed (a.ahead.term + 1) (bit_or (get_or a.groups.terms l.loop-k.k 0) n) (all_terms a.ahead)) (own_is l.before.before.before.before.before.before)
-            (subst (NoPart a.entries.now a.fixed (a.ahead.term + 1) _) (sym (all (first l.before.before.before.before.before.before))) (asked.ensures.0 w.if-part_fits.false))),
+        tried_lacks fits (2 ^ a.fixed.sets) rows known a.groups.terms a.groups.count (all_terms a.ahead) a.ahead.term more (before_next a.fixed.asked a.ahead.term) c.loop-k.k c.loop-k-test.true (inside c.before.before.before.before.before) c.loop-k.invariant.1
+            (subst (λ n. NoPart a.entries.now a.fixed (a.ahead.term + 1) (bit_or (get_or a.groups.terms c.loop-k.k 0) n) (all_terms a.ahead)) (own_is c.before.before.before.before.before.before)
+            (subst (NoPart a.entries.now a.fixed (a.ahead.term + 1) _) (sym (all (first c.before.before.before.before.before.before))) (asked.ensures.0 w.if-part_fits.false))),
         subst (Memo a.entries.now a.fixed.sets) (sym w.memo-is) asked.ensures.1,
       ))
       c.if-part_fits.branch-raw
 
   alone-requires : lts.Need-part_fits-requires-2 claims here all-fit.Post invariant-loop decreases-loop
   alone-requires c κs =
-      let l = c in
-      let s = start l.before.before in
-      (ready (first l.before.before) l.loop-k.invariant.2, subst (λ n. n < group_count) (sym (own_is l.before.before)) (alone_small s.args.ahead.term (room (first l.before.before))))
+      let s = start c.before.before in
+      (ready (first c.before.before) c.loop-k.invariant.2, subst (λ n. n < group_count) (sym (own_is c.before.before)) (alone_small s.args.ahead.term (room (first c.before.before))))
 
   -- each group was tried, and the term alone is a part of no class
   returns-4 : lts.Need-returns-then-not-part_fits claims here all-fit.Post invariant-loop decreases-loop
   returns-4 c =
       let asked = c.part_fits-2 in
-      let after = c in
-      let l = after in
-      let a = (start l.before.before.before.before.before.before).args in (
-        λ r. tried_alone fits (2 ^ a.fixed.sets) (rows_of_entries a.entries.now) (before a.fixed.asked a.ahead.term) a.groups.terms a.groups.count (all_terms a.ahead) a.ahead.term (before a.fixed.asked (a.ahead.term + 1)) (before_next a.fixed.asked a.ahead.term) l.loop-k.k after.loop-k-test.false (omega (arith, some_left (first l.before.before.before.before.before.before)))
-            l.loop-k.invariant.1
-            (subst (λ n. NoPart a.entries.now a.fixed (a.ahead.term + 1) n (all_terms a.ahead)) (own_is l.before.before.before.before.before.before)
-            (subst (NoPart a.entries.now a.fixed (a.ahead.term + 1) _) (sym (all (first l.before.before.before.before.before.before))) (asked.ensures.0 (c.if-not-part_fits.true)))),
+      let a = (start c.before.before.before.before.before.before).args in (
+        λ r. tried_alone fits (2 ^ a.fixed.sets) (rows_of_entries a.entries.now) (before a.fixed.asked a.ahead.term) a.groups.terms a.groups.count (all_terms a.ahead) a.ahead.term (before a.fixed.asked (a.ahead.term + 1)) (before_next a.fixed.asked a.ahead.term) c.loop-k.k c.loop-k-test.false (omega (arith, some_left (first c.before.before.before.before.before.before)))
+            c.loop-k.invariant.1
+            (subst (λ n. NoPart a.entries.now a.fixed (a.ahead.term + 1) n (all_terms a.ahead)) (own_is c.before.before.before.before.before.before)
+            (subst (NoPart a.entries.now a.fixed (a.ahead.term + 1) _) (sym (all (first c.before.before.before.before.before.before))) (asked.ensures.0 (c.if-not-part_fits.true)))),
         asked.ensures.1,
       )
 
   new-group-requires : lts.Need-all_fit-requires-2 claims here all-fit.Post invariant-loop decreases-loop
   new-group-requires c κs =
-      let l = c in
-      let e = first l.before.before.before.before.before.before.before.before in
-      let s = start l.before.before.before.before.before.before.before.before in
+      let e = first c.before.before.before.before.before.before.before.before in
+      let s = start c.before.before.before.before.before.before.before.before in
       let p = s.requires in
       let next = c.with_group-more in (
         omega (arith, some_left e, p.0),
         (
           ready e c.part_fits-2.ensures.1,
           (
-            groups_new s.args.groups s.args.ahead.term (room e) p.1.1.0 (free l.before.before.before.before.before.before.before.before) next.result next.ensures,
+            groups_new s.args.groups s.args.ahead.term (room e) p.1.1.0 (free c.before.before.before.before.before.before.before.before) next.result next.ensures,
             (omega (arith, p.1.1.1.0, ap (λ (g : Groups). g.count) next.ensures), same_terms e),
           ),
         ),
@@ -236,16 +220,13 @@ module _ (t : ℕ) where
 
   returns-5 : lts.Need-returns claims here all-fit.Post invariant-loop decreases-loop
   returns-5 c =
-      let call = c in
-      let after = call in
-      let l = after in
-      let a = (start l.before.before.before.before.before.before.before.before.before.before.before).args in
-      let next = call.with_group-more in (
-        λ r. tried_new fits (2 ^ a.fixed.sets) (rows_of_entries a.entries.now) (before a.fixed.asked a.ahead.term) a.groups.terms a.groups.count (all_terms a.ahead) a.ahead.term (before a.fixed.asked (a.ahead.term + 1)) (before_next a.fixed.asked a.ahead.term) l.loop-k.k after.loop-k-test.false (omega (arith, some_left (first l.before.before.before.before.before.before.before.before.before.before.before)))
-            l.loop-k.invariant.1 (free l.before.before.before.before.before.before.before.before.before.before.before) (with_group a.groups a.ahead.term).terms refl
+      let a = (start c.before.before.before.before.before.before.before.before.before.before.before).args in
+      let next = c.with_group-more in (
+        λ r. tried_new fits (2 ^ a.fixed.sets) (rows_of_entries a.entries.now) (before a.fixed.asked a.ahead.term) a.groups.terms a.groups.count (all_terms a.ahead) a.ahead.term (before a.fixed.asked (a.ahead.term + 1)) (before_next a.fixed.asked a.ahead.term) c.loop-k.k c.loop-k-test.false (omega (arith, some_left (first c.before.before.before.before.before.before.before.before.before.before.before)))
+            c.loop-k.invariant.1 (free c.before.before.before.before.before.before.before.before.before.before.before) (with_group a.groups a.ahead.term).terms refl
             (subst (λ g. NothingFits a.entries.now a.fixed (a.ahead.term + 1) g (all_terms a.ahead)) next.ensures
-            (subst (NothingFits a.entries.now a.fixed (a.ahead.term + 1) next.result) (sym (all (first l.before.before.before.before.before.before.before.before.before.before.before))) (call.all_fit-2.ensures.0 r))),
-        call.all_fit-2.ensures.1,
+            (subst (NothingFits a.entries.now a.fixed (a.ahead.term + 1) next.result) (sym (all (first c.before.before.before.before.before.before.before.before.before.before.before))) (c.all_fit-2.ensures.0 r))),
+        c.all_fit-2.ensures.1,
       )
 
 pub +all_fit_spec : {M : Type 1} → statement M
@@ -262,14 +243,13 @@ pub +all_fit_spec : {M : Type 1} → statement M
     (returns-2 t)
     (λ c κs. omega (arith, room t c.before.before))
     (λ c.
-    let s = c in
-    let a = s.args in
-    (omega arith, tried_none fits (2 ^ a.fixed.sets) (rows_of_entries a.entries.now) (before a.fixed.asked a.ahead.term) a.groups.terms a.groups.count (all_terms a.ahead) a.ahead.term, s.requires.1.0.remembered))
+    let a = c.args in
+    (omega arith, tried_none fits (2 ^ a.fixed.sets) (rows_of_entries a.entries.now) (before a.fixed.asked a.ahead.term) a.groups.terms a.groups.count (all_terms a.ahead) a.ahead.term, c.requires.1.0.remembered))
     (λ c. search rules)
     (λ c. omega (arith, c.loop-k-test.true, free t c.before))
     (λ c. omega (arith, c.loop-k-test.true, free t c.before))
     (part-requires t)
-    (λ c κs. let turn = c in (omega (arith, turn.loop-k-test.true, (start t turn.before.before.before.before.before.before).requires.1.1.1.0, room t (first t turn.before.before.before.before.before.before)), room t (first t turn.before.before.before.before.before.before)))
+    (λ c κs. (omega (arith, c.loop-k-test.true, (start t c.before.before.before.before.before.before).requires.1.1.1.0, room t (first t c.before.before.before.before.before.before)), room t (first t c.before.before.before.before.before.before)))
     (in-group-requires t)
     (λ c. c.all_fit-then-part_fits.ensures.1.long ∙ sym (start t c.before.before.before.before.before.before.before.before.before.before.before.before).requires.1.0.remembered.long)
     (λ c. ((λ r. absurd (true≢false r)), c.all_fit-then-part_fits.ensures.1))
@@ -279,7 +259,7 @@ pub +all_fit_spec : {M : Type 1} → statement M
     (alone-requires t)
     (λ c. c.part_fits-2.ensures.1.long ∙ sym (start t c.before.before.before.before.before.before).requires.1.0.remembered.long)
     (returns-4 t)
-    (λ c κs. let l = c in (omega (arith, (start t l.before.before.before.before.before.before).requires.1.1.1.0, room t (first t l.before.before.before.before.before.before)), room t (first t l.before.before.before.before.before.before)))
+    (λ c κs. (omega (arith, (start t c.before.before.before.before.before.before).requires.1.1.1.0, room t (first t c.before.before.before.before.before.before)), room t (first t c.before.before.before.before.before.before)))
     (new-group-requires t)
     (λ c. c.all_fit-2.ensures.1.long ∙ sym (start t c.before.before.before.before.before.before.before.before.before.before.before).requires.1.0.remembered.long)
     (returns-5 t)

@@ -56,11 +56,9 @@ module _ (t : ℕ) where
   returns : lts.Need-returns-then-left-eq0 claims here part-fits.Post
   returns c =
       let asked = c.has_mask in
-      let e = c in
-      let s = e in
-      let a = s.args in
-      let all : all_terms a.ahead ≡ a.ahead.term = omega (arith, e.if-left-eq0.true) in (
-        λ r. none_part set_tests (2 ^ a.fixed.sets) (rows_of_entries a.entries.now) (before a.fixed.asked a.ahead.term) a.group (all_terms a.ahead) (subst (AskedAre a.entries.now a.fixed.asked) all s.requires.1.0.asked_are)
+      let a = c.args in
+      let all : all_terms a.ahead ≡ a.ahead.term = omega (arith, c.if-left-eq0.true) in (
+        λ r. none_part set_tests (2 ^ a.fixed.sets) (rows_of_entries a.entries.now) (before a.fixed.asked a.ahead.term) a.group (all_terms a.ahead) (subst (AskedAre a.entries.now a.fixed.asked) all c.requires.1.0.asked_are)
             (not_there (mask_of_group a.entries.now a.fixed.sets a.group) (sym asked.ensures.0 ∙ r)),
         asked.ensures.1,
       )
@@ -70,7 +68,7 @@ module _ (t : ℕ) where
   some_left c = let a = c.args in a_term_left a.ahead.term a.ahead.left c.if-left-eq0.false
 
   room : (c : lts.Else-left-eq0 claims here part-fits.Post) → c.args.ahead.term < max_terms
-  room c = let s = c in one_of_twelve s.args.ahead.term s.args.ahead.left c.if-left-eq0.false s.requires.1.0.few_terms
+  room c = one_of_twelve c.args.ahead.term c.args.ahead.left c.if-left-eq0.false c.requires.1.0.few_terms
 
   -- with the next term there are as many
   all : (c : lts.Else-left-eq0 claims here part-fits.Post) → let a = c.args in all_terms a.ahead ≡ a.ahead.term + 1 + (a.ahead.left - 1)
@@ -86,47 +84,36 @@ module _ (t : ℕ) where
 
   without-requires : lts.Need-part_fits-requires claims here part-fits.Post
   without-requires c κs =
-      let e = c in
-      let p = e.requires in
-      (omega (arith, some_left e.before, p.0), (ready e.before p.1.0.remembered, p.1.1))
+      let p = c.requires in
+      (omega (arith, some_left c.before, p.0), (ready c.before p.1.0.remembered, p.1.1))
 
   -- the term is not asked
   returns-3 : lts.Need-returns-then-not-has_term claims here part-fits.Post
   returns-3 c =
       let asked = c.has_term in
-      let call = c in
-      let e = call in
-      let a = e.args in (
+      let a = c.args in (
         λ r. part_past a.entries.now a.fixed a.ahead.term (all_terms a.ahead) (sym asked.ensures ∙ c.if-not-has_term.true) a.group
-            (next_tells e.before.before.before.before.before.before.before a.group (call.part_fits.ensures.0 c.if-part_fits.false)),
-        call.part_fits.ensures.1,
+            (next_tells c.before.before.before.before.before.before.before a.group (c.part_fits.ensures.0 c.if-part_fits.false)),
+        c.part_fits.ensures.1,
       )
 
   -- the group with the term
-  small : (c : lts.After-term_alone-own claims here part-fits.Post) → let s = c in bit_or s.args.group c.term_alone-own.result < group_count
+  small : (c : lts.After-term_alone-own claims here part-fits.Post) → bit_or c.args.group c.term_alone-own.result < group_count
   small c =
-      let e = c in
-      let s = e in
-      subst (λ n. bit_or s.args.group n < group_count) (sym c.term_alone-own.ensures) (joined_small s.args.group s.args.ahead.term (room e.before.before.before.before.before.before.before.before) s.requires.1.1)
+      subst (λ n. bit_or c.args.group n < group_count) (sym c.term_alone-own.ensures) (joined_small c.args.group c.args.ahead.term (room c.before.before.before.before.before.before.before.before) c.requires.1.1)
 
   with-requires : lts.Need-part_fits-requires-2 claims here part-fits.Post
   with-requires c κs =
-      let call = c in
-      let e = call in
-      let p = e.requires in
-      (omega (arith, some_left e.before.before.before.before.before.before.before.before.before, p.0), (ready e.before.before.before.before.before.before.before.before.before call.part_fits.ensures.1, small c.before))
+      let p = c.requires in
+      (omega (arith, some_left c.before.before.before.before.before.before.before.before.before, p.0), (ready c.before.before.before.before.before.before.before.before.before c.part_fits.ensures.1, small c.before))
 
   returns-4 : lts.Need-returns claims here part-fits.Post
   returns-4 c =
-      let call = c in
-      let own = call in
-      let first = own in
-      let e = first in
-      let a = e.args in (
+      let a = c.args in (
         λ r. neither fits (2 ^ a.fixed.sets) (rows_of_entries a.entries.now) (before a.fixed.asked a.ahead.term) (before a.fixed.asked (a.ahead.term + 1)) a.ahead.term (before_next a.fixed.asked a.ahead.term) a.group (all_terms a.ahead)
-            (next_tells e.before.before.before.before.before.before.before.before.before.before.before.before a.group (first.part_fits.ensures.0 own.if-part_fits.false))
-            (subst (λ n. NoPart a.entries.now a.fixed (a.ahead.term + 1) (bit_or a.group n) (all_terms a.ahead)) own.term_alone-own.ensures (next_tells e.before.before.before.before.before.before.before.before.before.before.before.before _ (call.part_fits-2.ensures.0 r))),
-        call.part_fits-2.ensures.1,
+            (next_tells c.before.before.before.before.before.before.before.before.before.before.before.before a.group (c.part_fits.ensures.0 c.if-part_fits.false))
+            (subst (λ n. NoPart a.entries.now a.fixed (a.ahead.term + 1) (bit_or a.group n) (all_terms a.ahead)) c.term_alone-own.ensures (next_tells c.before.before.before.before.before.before.before.before.before.before.before.before _ (c.part_fits-2.ensures.0 r))),
+        c.part_fits-2.ensures.1,
       )
 
 pub +part_fits_spec : {M : Type 1} → statement M

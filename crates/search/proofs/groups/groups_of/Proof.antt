@@ -19,26 +19,21 @@ decreases-loop terms arrangement groups₀ t₀ groups t = terms - t
 
 with-term-requires : tie.Need-with_term-next-requires invariant-loop decreases-loop
 with-term-requires c κs =
-    let l = c in
-    let s = l in
-    let lt = s.requires.1 l.loop-t.t c.loop-t-test.true in
+    let lt = c.requires.1 c.loop-t.t c.loop-t-test.true in
     (lt, omega arith)
 
 loop-again : tie.Need-loop-t-preserved invariant-loop decreases-loop
 loop-again c =
-    let l = c in
-    let s = l in
     let next = c.with_term-next in (
       omega arith,
-      groups_more s.args.arrangement l.loop-t.groups.terms l.loop-t.t (omega arith) (s.requires.1 l.loop-t.t c.loop-t-test.true) l.loop-t.invariant.1 next.result.terms (ap (λ (g : Groups). g.terms) next.ensures),
-      ap (λ (g : Groups). g.count) next.ensures ∙ count_more s.args.arrangement l.loop-t.t l.loop-t.groups.count (omega arith) l.loop-t.invariant.2,
+      groups_more c.args.arrangement c.loop-t.groups.terms c.loop-t.t (omega arith) (c.requires.1 c.loop-t.t c.loop-t-test.true) c.loop-t.invariant.1 next.result.terms (ap (λ (g : Groups). g.terms) next.ensures),
+      ap (λ (g : Groups). g.count) next.ensures ∙ count_more c.args.arrangement c.loop-t.t c.loop-t.groups.count (omega arith) c.loop-t.invariant.2,
     )
 
 returns : tie.Need-returns invariant-loop decreases-loop
 returns c =
-    let l = c in
-    let all : l.loop-t.t ≡ l.args.terms = omega arith in
-    (subst (λ n. GroupsOf l.args.arrangement n l.loop-t.groups.terms) all l.loop-t.invariant.1, l.loop-t.invariant.2 ∙ ap (λ n. classes (take n l.args.arrangement)) all)
+    let all : c.loop-t.t ≡ c.args.terms = omega arith in
+    (subst (λ n. GroupsOf c.args.arrangement n c.loop-t.groups.terms) all c.loop-t.invariant.1, c.loop-t.invariant.2 ∙ ap (λ n. classes (take n c.args.arrangement)) all)
 
 pub groups_of_spec : {M : Type 1} → statement M
 groups_of_spec =

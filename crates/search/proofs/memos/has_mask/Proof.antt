@@ -9,23 +9,20 @@ use Rattle.search.proofs.memos.has_mask.Tie as tie
 
 returns : tie.Need-returns-then-note-ne0
 returns c =
-    let s = c in
-    let a = s.args in
-    (memo_read a.entries.now a.sets a.memo.now a.group s.requires.1.0 c.if-note-ne0.true, s.requires.1.0)
+    let a = c.args in
+    (memo_read a.entries.now a.sets a.memo.now a.group c.requires.1.0 c.if-note-ne0.true, c.requires.1.0)
 
 returns-2 : tie.Need-returns-in-At
 returns-2 c =
-    let s = c in
-    let a = s.args in
-    let mask = mask_is a.entries.now a.sets a.group s.requires.0 c.smallest_mask.result c.smallest_mask.ensures _ c.in-At.is in
-    (sym (ap is_there mask), memo_note a.entries.now a.sets a.memo.now a.group s.requires.1.0 s.requires.1.1 2 (sym (ap noted mask)))
+    let a = c.args in
+    let mask = mask_is a.entries.now a.sets a.group c.requires.0 c.smallest_mask.result c.smallest_mask.ensures _ c.in-At.is in
+    (sym (ap is_there mask), memo_note a.entries.now a.sets a.memo.now a.group c.requires.1.0 c.requires.1.1 2 (sym (ap noted mask)))
 
 returns-3 : tie.Need-returns-in-Nothing
 returns-3 c =
-    let s = c in
-    let a = s.args in
-    let mask = mask_lacks a.entries.now a.sets a.group s.requires.0 c.smallest_mask.result c.smallest_mask.ensures c.in-Nothing.is in
-    (sym (ap is_there mask), memo_note a.entries.now a.sets a.memo.now a.group s.requires.1.0 s.requires.1.1 1 (sym (ap noted mask)))
+    let a = c.args in
+    let mask = mask_lacks a.entries.now a.sets a.group c.requires.0 c.smallest_mask.result c.smallest_mask.ensures c.in-Nothing.is in
+    (sym (ap is_there mask), memo_note a.entries.now a.sets a.memo.now a.group c.requires.1.0 c.requires.1.1 1 (sym (ap noted mask)))
 
 pub has_mask_spec : {M : Type 1} → statement M
 has_mask_spec =

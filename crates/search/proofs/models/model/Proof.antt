@@ -33,36 +33,31 @@ its_terms c = (start c.before).requires.1.1.1.are c.loop-k.k (inside c)
 
 returns : tie.Need-returns-in_default invariant-loop decreases-loop
 returns c =
-    let turn = c in
-    let l = turn in
-    let s = start l.before.before.before.before in
+    let s = start c.before.before.before.before in
     let a = s.args in
     let smallest = c.smallest_mask-smallest in
-    model_none a.entries.now a.sets a.arrangement a.terms a.groups.count s.requires.1.1.0 s.requires.1.0 l.loop-k.k _ (its_terms turn.before.before.before) c.without_model.result (omega arith)
+    model_none a.entries.now a.sets a.arrangement a.terms a.groups.count s.requires.1.1.0 s.requires.1.0 c.loop-k.k _ (its_terms c.before.before.before) c.without_model.result (omega arith)
     (mask_lacks a.entries.now a.sets _ s.requires.0 smallest.result smallest.ensures c.in_default.is) c.without_model.ensures
 
 loop-again : tie.Need-loop-k-preserved invariant-loop decreases-loop
 loop-again c =
-    let turn = c in
-    let l = turn in
-    let s = start l.before.before.before in
+    let s = start c.before.before.before in
     let a = s.args in
     let smallest = c.smallest_mask-smallest in (
       omega arith,
-      length-set l.loop-k.masks l.loop-k.k _ ∙ l.loop-k.invariant.1,
-      rest_set l.loop-k.masks l.loop-k.k _ (inside turn.before.before) l.loop-k.invariant.2,
-      model_more a.entries.now a.sets a.arrangement a.terms a.groups.count s.requires.1.1.0 s.requires.1.0 l.loop-k.k _ (its_terms turn.before.before) l.loop-k.masks _ (omega (arith, inside turn.before.before))
-          (mask_is a.entries.now a.sets _ s.requires.0 smallest.result smallest.ensures _ c.in-At.is) l.loop-k.invariant.3,
+      length-set c.loop-k.masks c.loop-k.k _ ∙ c.loop-k.invariant.1,
+      rest_set c.loop-k.masks c.loop-k.k _ (inside c.before.before) c.loop-k.invariant.2,
+      model_more a.entries.now a.sets a.arrangement a.terms a.groups.count s.requires.1.1.0 s.requires.1.0 c.loop-k.k _ (its_terms c.before.before) c.loop-k.masks _ (omega (arith, inside c.before.before))
+          (mask_is a.entries.now a.sets _ s.requires.0 smallest.result smallest.ensures _ c.in-At.is) c.loop-k.invariant.3,
     )
 
 returns-2 : tie.Need-returns invariant-loop decreases-loop
 returns-2 c =
-    let l = c in
-    let s = start l.before in
+    let s = start c.before in
     let a = s.args in
-    let all : l.loop-k.k ≡ a.groups.count = omega arith in
-    model_all a.entries.now a.sets a.arrangement a.terms a.groups.count s.requires.1.1.0 s.requires.1.0 l.loop-k.masks _ l.loop-k.invariant.1 (subst (λ n. RestZero n l.loop-k.masks) all l.loop-k.invariant.2)
-    (subst (λ n. MasksTo a.entries.now a.sets (take a.terms a.arrangement) n l.loop-k.masks) all l.loop-k.invariant.3) refl
+    let all : c.loop-k.k ≡ a.groups.count = omega arith in
+    model_all a.entries.now a.sets a.arrangement a.terms a.groups.count s.requires.1.1.0 s.requires.1.0 c.loop-k.masks _ c.loop-k.invariant.1 (subst (λ n. RestZero n c.loop-k.masks) all c.loop-k.invariant.2)
+    (subst (λ n. MasksTo a.entries.now a.sets (take a.terms a.arrangement) n c.loop-k.masks) all c.loop-k.invariant.3) refl
 
 pub model_spec : {M : Type 1} → statement M
 model_spec =

@@ -64,14 +64,13 @@ module _ (t : ℕ) where
 
   all-fit-requires : lts.Need-all_fit-requires claims here place.Post invariant-loop decreases-loop
   all-fit-requires c κs =
-      let s = c in
-      let p = s.requires.1 in
+      let p = c.requires.1 in
       let placing = p.1.0 in (
         p.0,
         (
           record {
             long = p.1.1.0.long;
-            small = λ k lt. omega (arith, group_below placing p.1.1.0 k (omega (arith, placing.few_classes, placing.few_terms)), pow_mono {i = s.args.unplaced.term} {j = max_terms} placing.few_terms);
+            small = λ k lt. omega (arith, group_below placing p.1.1.0 k (omega (arith, placing.few_classes, placing.few_terms)), pow_mono {i = c.args.unplaced.term} {j = max_terms} placing.few_terms);
           },
           (placing.few_classes, refl),
         ),
@@ -80,11 +79,10 @@ module _ (t : ℕ) where
   returns : lts.Need-returns-then-not-all_fit claims here place.Post invariant-loop decreases-loop
   returns c =
       let told = c.all_fit in
-      let s = c in
-      let a = s.args in
+      let a = c.args in
       let nothing = told.ensures.0 (c.if-not-all_fit.true) in (
         answer_none a.entries.now a.fixed.sets a.arrangement a.unplaced.term a.unplaced.left a.groups.count c.without_model.result c.without_model.ensures
-            (unfit_cut s.requires.1.1.0 s.requires.1.1.1.0 a.entries.now a.fixed a.unplaced.left nothing),
+            (unfit_cut c.requires.1.1.0 c.requires.1.1.1.0 a.entries.now a.fixed a.unplaced.left nothing),
         told.ensures.1,
       )
 
@@ -94,9 +92,8 @@ module _ (t : ℕ) where
 
   model-requires : lts.Need-model-requires claims here place.Post invariant-loop decreases-loop
   model-requires c κs =
-      let s = c in
-      let a = s.args in
-      (s.requires.1.0.few_sets, (declared s.before.before.before.before.before.before.before.before a.unplaced.term (none_left a.unplaced.term a.unplaced.left c.if-left-eq0.true), (s.requires.1.1.0, s.requires.1.1.1.0)))
+      let a = c.args in
+      (c.requires.1.0.few_sets, (declared c.before.before.before.before.before.before.before.before a.unplaced.term (none_left a.unplaced.term a.unplaced.left c.if-left-eq0.true), (c.requires.1.1.0, c.requires.1.1.1.0)))
 
   returns-2 : lts.Need-returns-then-left-eq0 claims here place.Post invariant-loop decreases-loop
   returns-2 c =
@@ -108,13 +105,12 @@ module _ (t : ℕ) where
   some_here c = let a = c.args in some_left a.unplaced.term a.unplaced.left c.if-left-eq0.false
 
   one_here : (c : lts.Else-left-eq0 claims here place.Post invariant-loop decreases-loop) → c.args.unplaced.term < max_terms
-  one_here c = let s = c in room s.args.unplaced.term s.args.unplaced.left c.if-left-eq0.false s.requires.1.0.few_terms
+  one_here c = room c.args.unplaced.term c.args.unplaced.left c.if-left-eq0.false c.requires.1.0.few_terms
 
   loop-holds : lts.Need-loop-c-init claims here place.Post invariant-loop decreases-loop
   loop-holds c =
-      let s = c in
-      let a = s.args in
-      (omega arith, before_first a.entries.now a.fixed.sets a.arrangement a.unplaced.term a.unplaced.left a.groups.count s.requires.1.1.0 (some_here c), c.all_fit.ensures.1)
+      let a = c.args in
+      (omega arith, before_first a.entries.now a.fixed.sets a.arrangement a.unplaced.term a.unplaced.left a.groups.count c.requires.1.1.0 (some_here c), c.all_fit.ensures.1)
 
   -- the state at the call's start, seen from its loop
   abbrev start : lts.At-loop-c claims here place.Post invariant-loop decreases-loop → lts.Start claims here place.Post invariant-loop decreases-loop
@@ -132,57 +128,50 @@ module _ (t : ℕ) where
 
   place-requires : lts.Need-place-r-requires claims here place.Post invariant-loop decreases-loop
   place-requires c κs =
-      let l = c in
-      let s = start l.before.before.before in
+      let s = start c.before.before.before in
       let a = s.args in
       let more = c.with_term-grown in (
-        fewer a.unplaced.term a.unplaced.left l.if-left-eq0.false t s.requires.0,
+        fewer a.unplaced.term a.unplaced.left c.if-left-eq0.false t s.requires.0,
         (
-          ready_next s.requires.1.0 l.if-left-eq0.false l.loop-c.invariant.2,
+          ready_next s.requires.1.0 c.if-left-eq0.false c.loop-c.invariant.2,
           (
-            placing_next s.requires.1.1.0 l.loop-c.c (room_here l.before.before.before) more.result.count (allowed c.before.before) (ap (λ (g : Groups). g.count) more.ensures),
+            placing_next s.requires.1.1.0 c.loop-c.c (room_here c.before.before.before) more.result.count (allowed c.before.before) (ap (λ (g : Groups). g.count) more.ensures),
             (
-              groups_next s.requires.1.1.0 s.requires.1.1.1.0 l.loop-c.c (room_here l.before.before.before) (inside c.before.before) more.result.terms (ap (λ (g : Groups). g.terms) more.ensures),
-              declared s _ (as_many a.unplaced.term a.unplaced.left l.if-left-eq0.false),
+              groups_next s.requires.1.1.0 s.requires.1.1.1.0 c.loop-c.c (room_here c.before.before.before) (inside c.before.before) more.result.terms (ap (λ (g : Groups). g.terms) more.ensures),
+              declared s _ (as_many a.unplaced.term a.unplaced.left c.if-left-eq0.false),
             ),
           ),
         ),
       )
 
   -- what the call with the next term in the class c found
-  called : (c : lts.After-place-r claims here place.Post invariant-loop decreases-loop) → let l = c in let a = (start l.before.before.before.before).args in c.place-r.result ≡ answer_of (found_in a.entries.now a.fixed.sets a.arrangement a.unplaced.term a.unplaced.left a.groups.count l.loop-c.c)
+  called : (c : lts.After-place-r claims here place.Post invariant-loop decreases-loop) → let a = (start c.before.before.before.before).args in c.place-r.result ≡ answer_of (found_in a.entries.now a.fixed.sets a.arrangement a.unplaced.term a.unplaced.left a.groups.count c.loop-c.c)
   called c =
-      let l = c in
-      let s = start l.before.before.before.before in
+      let s = start c.before.before.before.before in
       let a = s.args in
-      answer_next a.entries.now a.fixed.sets a.arrangement a.unplaced.term a.unplaced.left a.groups.count s.requires.1.1.0 l.loop-c.c c.place-r.result (room_here l.before.before.before.before) c.place-r.ensures.0
+      answer_next a.entries.now a.fixed.sets a.arrangement a.unplaced.term a.unplaced.left a.groups.count s.requires.1.1.0 c.loop-c.c c.place-r.result (room_here c.before.before.before.before) c.place-r.ensures.0
 
   returns-3 : lts.Need-returns-then-is_possible claims here place.Post invariant-loop decreases-loop
   returns-3 c =
-      let call = c in
-      let l = call in
-      let a = (start l.before.before.before.before.before.before.before.before).args in (
-        class_hit a.entries.now a.fixed.sets a.arrangement a.unplaced.term a.unplaced.left a.groups.count l.loop-c.c call.place-r.result (allowed call.before.before.before.before.before.before.before) (called call.before.before.before.before) l.loop-c.invariant.1
+      let a = (start c.before.before.before.before.before.before.before.before).args in (
+        class_hit a.entries.now a.fixed.sets a.arrangement a.unplaced.term a.unplaced.left a.groups.count c.loop-c.c c.place-r.result (allowed c.before.before.before.before.before.before.before) (called c.before.before.before.before) c.loop-c.invariant.1
             c.is_possible.result c.is_possible.ensures c.if-is_possible.true,
-        call.place-r.ensures.1,
+        c.place-r.ensures.1,
       )
 
   loop-again : lts.Need-loop-c-preserved claims here place.Post invariant-loop decreases-loop
   loop-again c =
-      let call = c in
-      let l = call in
-      let a = (start l.before.before.before.before.before.before.before.before).args in (
-        omega (arith, allowed call.before.before.before.before.before.before.before),
-        class_miss a.entries.now a.fixed.sets a.arrangement a.unplaced.term a.unplaced.left a.groups.count l.loop-c.c call.place-r.result (allowed call.before.before.before.before.before.before.before) (called call.before.before.before.before) l.loop-c.invariant.1
+      let a = (start c.before.before.before.before.before.before.before.before).args in (
+        omega (arith, allowed c.before.before.before.before.before.before.before),
+        class_miss a.entries.now a.fixed.sets a.arrangement a.unplaced.term a.unplaced.left a.groups.count c.loop-c.c c.place-r.result (allowed c.before.before.before.before.before.before.before) (called c.before.before.before.before) c.loop-c.invariant.1
             c.is_possible.result c.is_possible.ensures c.if-is_possible.false,
-        call.place-r.ensures.1,
+        c.place-r.ensures.1,
       )
 
   returns-4 : lts.Need-returns claims here place.Post invariant-loop decreases-loop
   returns-4 c =
-      let l = c in
-      let a = (start l.before.before).args in
-      (answer_none a.entries.now a.fixed.sets a.arrangement a.unplaced.term a.unplaced.left a.groups.count c.without_model-2.result c.without_model-2.ensures (class_end a.entries.now a.fixed.sets a.arrangement a.unplaced.term a.unplaced.left a.groups.count l.loop-c.c c.loop-c-test.false l.loop-c.invariant.1), l.loop-c.invariant.2)
+      let a = (start c.before.before).args in
+      (answer_none a.entries.now a.fixed.sets a.arrangement a.unplaced.term a.unplaced.left a.groups.count c.without_model-2.result c.without_model-2.ensures (class_end a.entries.now a.fixed.sets a.arrangement a.unplaced.term a.unplaced.left a.groups.count c.loop-c.c c.loop-c-test.false c.loop-c.invariant.1), c.loop-c.invariant.2)
 
 pub +place_spec : {M : Type 1} → statement M
 +place_spec =

@@ -70,7 +70,7 @@ module _ (t : ℕ) where
   some_left c = let a = c.args in a_term_left a.ahead.term a.ahead.left c.if-left-eq0.false
 
   room : (c : lts.Else-left-eq0 claims here rest-fits.Post invariant-loop decreases-loop) → c.args.ahead.term < max_terms
-  room c = let s = c in one_of_twelve s.args.ahead.term s.args.ahead.left c.if-left-eq0.false s.requires.1.0.few_terms
+  room c = one_of_twelve c.args.ahead.term c.args.ahead.left c.if-left-eq0.false c.requires.1.0.few_terms
 
   -- with the next term there are as many
   all : (c : lts.Else-left-eq0 claims here rest-fits.Post invariant-loop decreases-loop) → let a = c.args in all_terms a.ahead ≡ a.ahead.term + 1 + (a.ahead.left - 1)
@@ -81,24 +81,17 @@ module _ (t : ℕ) where
 
   needs-a-group-requires : lts.Need-needs_a_group-requires claims here rest-fits.Post invariant-loop decreases-loop
   needs-a-group-requires c κs =
-      let e = c in
-      let s = e in
-      (s.requires.1.0.few_sets, (s.requires.1.0.remembered, omega (arith, c.term_alone-own.ensures, alone_small s.args.ahead.term (room e.before.before))))
+      (c.requires.1.0.few_sets, (c.requires.1.0.remembered, omega (arith, c.term_alone-own.ensures, alone_small c.args.ahead.term (room c.before.before))))
 
   skip-requires : lts.Need-rest_fits-requires claims here rest-fits.Post invariant-loop decreases-loop
   skip-requires c κs =
-      let told = c in
-      let e = told in
-      let s = e in
-      let p = s.requires in
-      (omega (arith, some_left e.before.before.before.before.before.before.before, p.0), (ready e.before.before.before.before.before.before.before told.needs_a_group.ensures.1, p.1.1))
+      let p = c.requires in
+      (omega (arith, some_left c.before.before.before.before.before.before.before, p.0), (ready c.before.before.before.before.before.before.before c.needs_a_group.ensures.1, p.1.1))
 
   returns-2 : lts.Need-returns-then-not-needs_a_group claims here rest-fits.Post invariant-loop decreases-loop
   returns-2 c =
-      let call = c in
-      let e = call in
-      let a = e.args in
-      ((λ r. subst (λ n. NothingFits a.entries.now a.fixed n a.groups n) (sym (all e.before.before.before.before.before.before.before.before.before.before)) (call.rest_fits.ensures.0 r)), call.rest_fits.ensures.1)
+      let a = c.args in
+      ((λ r. subst (λ n. NothingFits a.entries.now a.fixed n a.groups n) (sym (all c.before.before.before.before.before.before.before.before.before.before)) (c.rest_fits.ensures.0 r)), c.rest_fits.ensures.1)
 
   -- what stands before the loop, and the call's start
   abbrev first : lts.At-loop-k claims here rest-fits.Post invariant-loop decreases-loop → lts.Else-left-eq0 claims here rest-fits.Post invariant-loop decreases-loop
@@ -121,32 +114,27 @@ module _ (t : ℕ) where
   small : (c : lts.In-loop-k claims here rest-fits.Post invariant-loop decreases-loop) →
       bit_or (get_or (start c.before).args.groups.terms c.loop-k.k 0) c.term_alone-own.result < group_count
   small c =
-      let l = c in
-      let group = get_or (start l.before).args.groups.terms l.loop-k.k 0 in
-      subst (λ n. bit_or group n < group_count) (sym (own_is l.before)) (joined_small group (start l.before).args.ahead.term (room (first l.before)) ((start l.before).requires.1.1.0.small l.loop-k.k c.loop-k-test.true))
+      let group = get_or (start c.before).args.groups.terms c.loop-k.k 0 in
+      subst (λ n. bit_or group n < group_count) (sym (own_is c.before)) (joined_small group (start c.before).args.ahead.term (room (first c.before)) ((start c.before).requires.1.1.0.small c.loop-k.k c.loop-k-test.true))
 
   in-group-requires : lts.Need-rest_fits-requires-then-has_mask claims here rest-fits.Post invariant-loop decreases-loop
   in-group-requires c κs =
-      let turn = c in
-      let l = turn in
-      let s = start l.before.before.before.before.before.before.before.before in
+      let s = start c.before.before.before.before.before.before.before.before in
       let p = s.requires in
       let next = c.with_term-more in (
-        omega (arith, some_left (first l.before.before.before.before.before.before.before.before), p.0),
+        omega (arith, some_left (first c.before.before.before.before.before.before.before.before), p.0),
         (
-          ready (first l.before.before.before.before.before.before.before.before) c.has_mask.ensures.1,
+          ready (first c.before.before.before.before.before.before.before.before) c.has_mask.ensures.1,
           (
-            groups_joined s.args.groups s.args.ahead.term (room (first l.before.before.before.before.before.before.before.before)) p.1.1.0 l.loop-k.k turn.loop-k-test.true (within turn.before.before.before.before.before.before.before) next.result next.ensures,
-            omega (arith, p.1.1.1, joined_count s.args.groups l.loop-k.k s.args.ahead.term turn.loop-k-test.true next.result next.ensures),
+            groups_joined s.args.groups s.args.ahead.term (room (first c.before.before.before.before.before.before.before.before)) p.1.1.0 c.loop-k.k c.loop-k-test.true (within c.before.before.before.before.before.before.before) next.result next.ensures,
+            omega (arith, p.1.1.1, joined_count s.args.groups c.loop-k.k s.args.ahead.term c.loop-k-test.true next.result next.ensures),
           ),
         ),
       )
 
   loop-again : lts.Need-loop-k-preserved claims here rest-fits.Post invariant-loop decreases-loop
   loop-again c =
-      let turn = c in
-      let l = turn in
-      let s = start l.before.before.before.before.before.before in
+      let s = start c.before.before.before.before.before.before in
       let a = s.args in
       let known = before a.fixed.asked (all_terms a.ahead) in
       let rows = rows_of_entries a.entries.now in
@@ -154,33 +142,32 @@ module _ (t : ℕ) where
       ⊎_elim
       (λ w. (
         omega arith,
-        tried_stuck fits (2 ^ a.fixed.sets) rows known a.groups.terms a.groups.count (all_terms a.ahead) a.ahead.term known (λ d h. inl h) l.loop-k.k turn.loop-k-test.true (within turn.before.before.before.before.before) l.loop-k.invariant.1
-            (with_term a.groups l.loop-k.k a.ahead.term).terms refl
-            (fits_joined a.entries.now a.fixed (all_terms a.ahead) (all_terms a.ahead) a.groups l.loop-k.k a.ahead.term turn.loop-k-test.true w.with_term-more.result w.with_term-more.ensures
-            (subst (λ n. NothingFits a.entries.now a.fixed n w.with_term-more.result n) (sym (all (first l.before.before.before.before.before.before))) (w.rest_fits-then-has_mask.ensures.0 w.if-rest_fits.false))),
+        tried_stuck fits (2 ^ a.fixed.sets) rows known a.groups.terms a.groups.count (all_terms a.ahead) a.ahead.term known (λ d h. inl h) c.loop-k.k c.loop-k-test.true (within c.before.before.before.before.before) c.loop-k.invariant.1
+            (with_term a.groups c.loop-k.k a.ahead.term).terms refl
+            (fits_joined a.entries.now a.fixed (all_terms a.ahead) (all_terms a.ahead) a.groups c.loop-k.k a.ahead.term c.loop-k-test.true w.with_term-more.result w.with_term-more.ensures
+            (subst (λ n. NothingFits a.entries.now a.fixed n w.with_term-more.result n) (sym (all (first c.before.before.before.before.before.before))) (w.rest_fits-then-has_mask.ensures.0 w.if-rest_fits.false))),
         subst (Memo a.entries.now a.fixed.sets) (sym w.memo-is) w.rest_fits-then-has_mask.ensures.1,
       ))
       (λ w. (
         omega arith,
-        tried_lacks fits (2 ^ a.fixed.sets) rows known a.groups.terms a.groups.count (all_terms a.ahead) a.ahead.term known (λ d h. inl h) l.loop-k.k turn.loop-k-test.true (within turn.before.before.before.before.before) l.loop-k.invariant.1
-            (none_part set_tests (2 ^ a.fixed.sets) rows known (bit_or (get_or a.groups.terms l.loop-k.k 0) (2 ^ a.ahead.term)) (all_terms a.ahead) s.requires.1.0.asked_are
-            (ap (λ n. mask_of_group a.entries.now a.fixed.sets (bit_or (get_or a.groups.terms l.loop-k.k 0) n)) (sym (own_is l.before.before.before.before.before.before)) ∙ not_there (mask_of_group a.entries.now a.fixed.sets _) (sym asked.ensures.0 ∙ w.if-has_mask.false))),
+        tried_lacks fits (2 ^ a.fixed.sets) rows known a.groups.terms a.groups.count (all_terms a.ahead) a.ahead.term known (λ d h. inl h) c.loop-k.k c.loop-k-test.true (within c.before.before.before.before.before) c.loop-k.invariant.1
+            (none_part set_tests (2 ^ a.fixed.sets) rows known (bit_or (get_or a.groups.terms c.loop-k.k 0) (2 ^ a.ahead.term)) (all_terms a.ahead) s.requires.1.0.asked_are
+            (ap (λ n. mask_of_group a.entries.now a.fixed.sets (bit_or (get_or a.groups.terms c.loop-k.k 0) n)) (sym (own_is c.before.before.before.before.before.before)) ∙ not_there (mask_of_group a.entries.now a.fixed.sets _) (sym asked.ensures.0 ∙ w.if-has_mask.false))),
         subst (Memo a.entries.now a.fixed.sets) (sym w.memo-is) asked.ensures.1,
       ))
       c.if-has_mask.branch-raw
 
   returns-4 : lts.Need-returns claims here rest-fits.Post invariant-loop decreases-loop
   returns-4 c =
-      let l = c in
-      let s = start l.before in
+      let s = start c.before in
       let a = s.args in
       let known = before a.fixed.asked (all_terms a.ahead) in
       let rows = rows_of_entries a.entries.now in
-      let asked = l.needs_a_group in
-      let alone = ap (mask_of_group a.entries.now a.fixed.sets) (sym (own_is l.before)) ∙ asked.ensures.0 (l.if-not-needs_a_group.false) in (
-        λ r. tried_alone fits (2 ^ a.fixed.sets) rows known a.groups.terms a.groups.count (all_terms a.ahead) a.ahead.term known (λ d h. inl h) l.loop-k.k c.loop-k-test.false (omega (arith, some_left (first l.before))) l.loop-k.invariant.1
+      let asked = c.needs_a_group in
+      let alone = ap (mask_of_group a.entries.now a.fixed.sets) (sym (own_is c.before)) ∙ asked.ensures.0 (c.if-not-needs_a_group.false) in (
+        λ r. tried_alone fits (2 ^ a.fixed.sets) rows known a.groups.terms a.groups.count (all_terms a.ahead) a.ahead.term known (λ d h. inl h) c.loop-k.k c.loop-k-test.false (omega (arith, some_left (first c.before))) c.loop-k.invariant.1
             (none_part set_tests (2 ^ a.fixed.sets) rows known (2 ^ a.ahead.term) (all_terms a.ahead) s.requires.1.0.asked_are alone),
-        l.loop-k.invariant.2,
+        c.loop-k.invariant.2,
       )
 
 pub +rest_fits_spec : {M : Type 1} → statement M
@@ -195,14 +182,13 @@ pub +rest_fits_spec : {M : Type 1} → statement M
     (λ c. c.rest_fits.ensures.1.long ∙ sym c.requires.1.0.remembered.long)
     (returns-2 t)
     (λ c.
-    let s = c in
-    let a = s.args in
+    let a = c.args in
     (omega arith, tried_none fits (2 ^ a.fixed.sets) (rows_of_entries a.entries.now) (before a.fixed.asked (all_terms a.ahead)) a.groups.terms a.groups.count (all_terms a.ahead) a.ahead.term, c.needs_a_group.ensures.1))
     (λ c. search rules)
     (λ c. omega (arith, c.loop-k-test.true, c.requires.1.1.1))
     (λ c. omega (arith, c.loop-k-test.true, c.requires.1.1.1))
-    (λ c κs. let l = c in ((start t l.before.before).requires.1.0.few_sets, (l.loop-k.invariant.2, small t c.before)))
-    (λ c κs. let turn = c in (inside t turn.before.before.before.before.before, room t (first t turn.before.before.before.before.before.before)))
+    (λ c κs. ((start t c.before.before).requires.1.0.few_sets, (c.loop-k.invariant.2, small t c.before)))
+    (λ c κs. (inside t c.before.before.before.before.before, room t (first t c.before.before.before.before.before.before)))
     (in-group-requires t)
     (λ c. c.rest_fits-then-has_mask.ensures.1.long ∙ sym (start t c.before.before.before.before.before.before.before.before.before.before.before.before).requires.1.0.remembered.long)
     (λ c. ((λ r. absurd (true≢false r)), c.rest_fits-then-has_mask.ensures.1))

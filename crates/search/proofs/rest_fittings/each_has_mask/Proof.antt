@@ -22,11 +22,8 @@ inside c = omega (arith, c.loop-k-test.true, c.requires.0.1)
 
 returns : tie.Need-returns-then-not-has_mask invariant-loop decreases-loop
 returns c =
-    let turn = c in
-    let l = turn in
-    let s = l in
     let asked = c.has_mask in
-    ((λ e. (l.loop-k.k, turn.loop-k-test.true, not_there (mask_of_group s.args.entries.now s.args.sets _) (sym asked.ensures.0 ∙ c.if-not-has_mask.true))), asked.ensures.1)
+    ((λ e. (c.loop-k.k, c.loop-k-test.true, not_there (mask_of_group c.args.entries.now c.args.sets _) (sym asked.ensures.0 ∙ c.if-not-has_mask.true))), asked.ensures.1)
 
 pub each_has_mask_spec : {M : Type 1} → statement M
 each_has_mask_spec =
@@ -38,7 +35,7 @@ each_has_mask_spec =
     (λ c. search rules)
     (λ c. omega (arith, c.loop-k-test.true, c.requires.0.1))
     (λ c. omega (arith, c.loop-k-test.true, c.requires.0.1))
-    (λ c κs. let l = c in let s = l in (s.requires.0.0, (l.loop-k.invariant.1, s.requires.1.1.small l.loop-k.k c.loop-k-test.true)))
+    (λ c κs. (c.requires.0.0, (c.loop-k.invariant.1, c.requires.1.1.small c.loop-k.k c.loop-k-test.true)))
     (λ c. c.has_mask.ensures.1.long ∙ sym c.requires.1.0.long)
     returns
     (λ c. search rules)

@@ -10,9 +10,8 @@ use Rattle.search.proofs.rest_fittings.needs_a_group.Tie as tie
 
 returns-2 : tie.Need-returns
 returns-2 c =
-    let s = c in
     let asked = c.has_mask in
-    ((λ e. not_there (mask_of_group s.args.entries.now s.args.fixed.sets s.args.own) (sym asked.ensures.0 ∙ not-true asked.result e)), asked.ensures.1)
+    ((λ e. not_there (mask_of_group c.args.entries.now c.args.fixed.sets c.args.own) (sym asked.ensures.0 ∙ not-true asked.result e)), asked.ensures.1)
 
 pub needs_a_group_spec : {M : Type 1} → statement M
 needs_a_group_spec = tie.close (tie.spec (λ c. ((λ e. absurd (false≢true e)), c.requires.1.0)) (λ c κs. search rules) (λ c. search rules) returns-2)

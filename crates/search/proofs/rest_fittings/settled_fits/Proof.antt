@@ -13,11 +13,10 @@ each-has-mask-requires c κs = let p = c.requires in ((p.0.few_sets, p.1.1), (p.
 
 returns : tie.Need-returns-then-not-each_has_mask
 returns c =
-    let s = c in
-    let a = s.args in
+    let a = c.args in
     let asked = c.each_has_mask in
     let lacks = asked.ensures.0 (c.if-not-each_has_mask.true) in
-    ((λ e l at long here. part_cut set_tests (here.part lacks.0 lacks.1) (2 ^ a.fixed.sets) (rows_of_entries a.entries.now) s.requires.0.asked_are lacks.2), asked.ensures.1)
+    ((λ e l at long here. part_cut set_tests (here.part lacks.0 lacks.1) (2 ^ a.fixed.sets) (rows_of_entries a.entries.now) c.requires.0.asked_are lacks.2), asked.ensures.1)
 
 rest-fits-requires : tie.Need-rest_fits-requires
 rest-fits-requires c κs = let p = c.requires in (ready_again p.0 c.each_has_mask.ensures.1, p.1)

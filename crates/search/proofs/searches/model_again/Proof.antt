@@ -13,18 +13,16 @@ use Rattle.search.proofs.searches.model_again.Tie as tie
 
 model-requires : tie.Need-model-requires
 model-requires c κs =
-    let s = c in
-    let a = s.args in
-    let kept = rows_keep a.terms a.sets a.rows.now s.requires.0 in
+    let a = c.args in
+    let kept = rows_keep a.terms a.sets a.rows.now c.requires.0 in
     let declared = all_declared a.terms a.sets a.rows.now kept.all_good in
     let gathered = c.gather-count.ensures in
-    (kept.few_sets, (subst T (sym (plain_says a.terms a.sets a.rows.now declared kept.few_sets _ _ gathered.0 (row_declared a.terms a.sets))) declared, (subst (Placing a.arrangement a.terms) (sym c.groups_of-groups.ensures.1) s.requires.1.1, c.groups_of-groups.ensures.0)))
+    (kept.few_sets, (subst T (sym (plain_says a.terms a.sets a.rows.now declared kept.few_sets _ _ gathered.0 (row_declared a.terms a.sets))) declared, (subst (Placing a.arrangement a.terms) (sym c.groups_of-groups.ensures.1) c.requires.1.1, c.groups_of-groups.ensures.0)))
 
 returns : tie.Need-returns
 returns c =
-    let s = c in
-    let a = s.args in
-    let kept = rows_keep a.terms a.sets a.rows.now s.requires.0 in
+    let a = c.args in
+    let kept = rows_keep a.terms a.sets a.rows.now c.requires.0 in
     let declared = all_declared a.terms a.sets a.rows.now kept.all_good in
     model_plain a.terms a.sets a.rows.now declared kept.few_sets _ _ c.gather-count.ensures.0 (take a.terms a.arrangement) c.model.result c.model.ensures
 
@@ -33,7 +31,7 @@ model_again_spec =
     tie.close
     (tie.spec
     (λ c κs. search rules)
-    (λ c κs. let s = c in (s.requires.1.1.few_terms, class_few s.requires.1.1))
+    (λ c κs. (c.requires.1.1.few_terms, class_few c.requires.1.1))
     (λ c. search rules)
     (λ c. sym (length-take-le _ _ c.gather-count.ensures.0.few))
     model-requires

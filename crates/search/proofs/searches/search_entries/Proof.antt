@@ -22,17 +22,16 @@ use Rattle.search.proofs.searches.search_entries.Tie as tie
 
 place-requires : tie.Need-place-requires
 place-requires c κs =
-    let s = c in
-    let a = s.args in
+    let a = c.args in
     let asked = c.terms_asked in
     let all : a.terms ≡ 0 + a.terms = omega arith in (
       record {
-        few_sets = s.requires.0.1;
-        few_terms = omega (arith, s.requires.0.0);
+        few_sets = c.requires.0.1;
+        few_terms = omega (arith, c.requires.0.0);
         remembered = memo_start a.entries.now a.sets;
-        asked_are = subst (AskedAre a.entries.now asked.result) all (asked_before set_tests a.terms asked.result (rows_of_entries a.entries.now) (declared_within a.terms a.sets (rows_of_entries a.entries.now) s.requires.1) asked.ensures);
+        asked_are = subst (AskedAre a.entries.now asked.result) all (asked_before set_tests a.terms asked.result (rows_of_entries a.entries.now) (declared_within a.terms a.sets (rows_of_entries a.entries.now) c.requires.1) asked.ensures);
       },
-      (placing_start, (groups_none (padded max_terms []), subst (λ n. T (all_rows (row_declared n a.sets) (rows_of_entries a.entries.now))) all s.requires.1)),
+      (placing_start, (groups_none (padded max_terms []), subst (λ n. T (all_rows (row_declared n a.sets) (rows_of_entries a.entries.now))) all c.requires.1)),
     )
 
 returns : tie.Need-returns

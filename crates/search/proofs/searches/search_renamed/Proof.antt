@@ -17,10 +17,9 @@ use Rattle.search.proofs.searches.search_renamed.Tie as tie
 
 search-entries-requires : tie.Need-search_entries-requires
 search-entries-requires c κs =
-    let s = c in
-    let a = s.args in
-    let kept = rows_keep a.terms a.sets a.rows.now s.requires.0 in
-    let declared = rows_declared_too a.terms a.sets (new_name a.to) s.requires.1.1 (map row_of a.rows.now) (all_declared a.terms a.sets a.rows.now kept.all_good) in
+    let a = c.args in
+    let kept = rows_keep a.terms a.sets a.rows.now c.requires.0 in
+    let declared = rows_declared_too a.terms a.sets (new_name a.to) c.requires.1.1 (map row_of a.rows.now) (all_declared a.terms a.sets a.rows.now kept.all_good) in
     ((kept.few_terms, kept.few_sets), subst T (sym (c.gather-count.ensures.0.says (row_declared a.terms a.sets))) declared)
 
 returns : tie.Need-returns

@@ -8,9 +8,8 @@ use Rattle.solved.proofs.answers.judge_model.Tie as tie
 
 returns-2 : tie.Need-returns
 returns-2 c =
-    let p = c in
-    let a = p.args in
-    let all = judged_failed a.q a.m a.buf.now p.passes.ensures (search rules) in
+    let a = c.args in
+    let all = judged_failed a.q a.m a.buf.now c.passes.ensures (search rules) in
     (ap Refused c.new.ensures ∙ sym all.0, sym all.1)
 
 pub judge_model_spec : {M : Type 1} → statement M
@@ -22,9 +21,8 @@ judge_model_spec =
     (λ c. search rules)
     (λ c.
     let w = c.write_model in
-    let p = c in
-    let a = p.args in
-    let all = judged_passed a.q a.m a.buf.now p.passes.ensures (search rules) in
+    let a = c.args in
+    let all = judged_passed a.q a.m a.buf.now c.passes.ensures (search rules) in
     (w.ensures.0 ∙ sym all.0, w.ensures.1 ∙ sym all.1))
     (λ c κs. search rules)
     returns-2)

@@ -7,17 +7,15 @@ use Rattle.solved.proofs.answers.solve.Tie as tie
 
 returns : tie.Need-returns-in-Refused
 returns c =
-    let k = c in
-    let a = k.args in
-    let all = table_refused a.q a.lines.now a.answer.now (sym k.check.ensures ∙ c.in-Refused.is) in
+    let a = c.args in
+    let all = table_refused a.q a.lines.now a.answer.now (sym c.check.ensures ∙ c.in-Refused.is) in
     (sym all.0, sym all.1)
 
 returns-2 : tie.Need-returns-in-Accepted
 returns-2 c =
     let s = c.solve_lines in
-    let k = c in
-    let a = k.args in
-    let all = table_accepted a.q a.lines.now a.answer.now (sym k.check.ensures ∙ c.in-Accepted.is) in
+    let a = c.args in
+    let all = table_accepted a.q a.lines.now a.answer.now (sym c.check.ensures ∙ c.in-Accepted.is) in
     (s.ensures.0 ∙ sym all.0, s.ensures.1 ∙ sym all.1)
 
 pub solve_spec : {M : Type 1} → statement M

@@ -13,17 +13,15 @@ is c = let a = c.args in c.read_lines-read.ensures ∙ ap (λ n. lines_read n a.
 
 returns : tie.Need-returns-in-Refused
 returns c =
-    let r = c in
-    let a = r.args in
-    let all = lines_refused a.q a.lines.now a.buf.now (is r.before) c.in-Refused.is in
+    let a = c.args in
+    let all = lines_refused a.q a.lines.now a.buf.now (is c.before) c.in-Refused.is in
     (sym all.0, sym all.1)
 
 returns-2 : tie.Need-returns-in-Accepted
 returns-2 c =
     let s = c.solve_reading in
-    let r = c in
-    let a = r.args in
-    let all = lines_accepted a.q a.lines.now a.buf.now (is r.before.before.before.before.before.before) c.in-Accepted.is in
+    let a = c.args in
+    let all = lines_accepted a.q a.lines.now a.buf.now (is c.before.before.before.before.before.before) c.in-Accepted.is in
     (s.ensures.0 ∙ sym all.0, s.ensures.1 ∙ sym all.1)
 
 pub solve_lines_spec : {M : Type 1} → statement M

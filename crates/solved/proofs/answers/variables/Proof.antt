@@ -18,7 +18,7 @@ variables_spec =
     tie.close
     (tie.spec
     (λ c κs. search rules)
-    (λ c. let s = c in omega (arith, c.terms-count.ensures, (few s.args.q s.requires).0))
+    (λ c. omega (arith, c.terms-count.ensures, (few c.args.q c.requires).0))
     (λ c κs. search rules)
-    (λ c. let s = c in omega (arith, is c, variables_few s.args.q s.requires))
+    (λ c. omega (arith, is c, variables_few c.args.q c.requires))
     is)

@@ -8,22 +8,19 @@ use Rattle.solved.proofs.files.solve_file.Tie as tie
 
 solve-lines-requires : tie.Need-solve_lines-requires
 solve-lines-requires c κs =
-    let r = c in
-    checked_read r.args.question.now r.read_question-read.result r.read_question-read.ensures c.in-Accepted.is
+    checked_read c.args.question.now c.read_question-read.result c.read_question-read.ensures c.in-Accepted.is
 
 returns : tie.Need-returns-in-Refused
 returns c =
-    let r = c in
-    let a = r.args in
-    let all = file_refused a.question.now a.lines.now a.answer.now r.read_question-read.ensures c.in-Refused.is in
+    let a = c.args in
+    let all = file_refused a.question.now a.lines.now a.answer.now c.read_question-read.ensures c.in-Refused.is in
     (sym all.0, sym all.1)
 
 returns-2 : tie.Need-returns-in-Accepted
 returns-2 c =
     let s = c.solve_lines in
-    let r = c in
-    let a = r.args in
-    let all = file_accepted a.question.now a.lines.now a.answer.now r.read_question-read.ensures c.in-Accepted.is in
+    let a = c.args in
+    let all = file_accepted a.question.now a.lines.now a.answer.now c.read_question-read.ensures c.in-Accepted.is in
     (s.ensures.0 ∙ sym all.0, s.ensures.1 ∙ sym all.1)
 
 pub solve_file_spec : {M : Type 1} → statement M

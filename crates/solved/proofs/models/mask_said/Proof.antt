@@ -23,8 +23,7 @@ decreases-loop said terms sets c mask₀ bit₀ x₀ mask bit x = sets - x
 add_mask : tie.Need-overflow_add-mask invariant-loop decreases-loop
 add_mask c =
     let l = c.loop-x in
-    let s = c in
-    let a = s.args in
+    let a = c.args in
     omega (arith, l.invariant.1, l.invariant.2, power_most l.x (omega arith), mask_below a.terms a.sets (truth_of a.said.values) l.x a.c)
 
 mul_bit : tie.Need-overflow_mul-bit invariant-loop decreases-loop

@@ -8,27 +8,23 @@ use Rattle.solved.proofs.models.place.Tie as tie
 
 array_write_masks : tie.Need-bounds-masks-used
 array_write_masks c =
-    let s = c in
-    let a = s.args in
-    omega (arith, s.requires.1, few_classes a.terms a.sets (truth_of a.said.values) a.d s.requires.1 a.m s.requires.2)
+    let a = c.args in
+    omega (arith, c.requires.1, few_classes a.terms a.sets (truth_of a.said.values) a.d c.requires.1 a.m c.requires.2)
 
 add_used : tie.Need-overflow_add-used
 add_used c =
-    let s = c in
-    let a = s.args in
-    omega (arith, s.requires.1, few_classes a.terms a.sets (truth_of a.said.values) a.d s.requires.1 a.m s.requires.2)
+    let a = c.args in
+    omega (arith, c.requires.1, few_classes a.terms a.sets (truth_of a.said.values) a.d c.requires.1 a.m c.requires.2)
 
 returns : tie.Need-returns-then-class-used
 returns c =
-    let s = c in
-    let a = s.args in
-    place_started a.terms a.sets (truth_of a.said.values) a.d s.requires.1 a.m s.requires.2 c.class_said-class.ensures c.mask_said.ensures c.if-class-used.true
+    let a = c.args in
+    place_started a.terms a.sets (truth_of a.said.values) a.d c.requires.1 a.m c.requires.2 c.class_said-class.ensures c.mask_said.ensures c.if-class-used.true
 
 returns-2 : tie.Need-returns-else-class-used
 returns-2 c =
-    let s = c in
-    let a = s.args in
-    place_joined a.terms a.sets (truth_of a.said.values) a.d s.requires.1 a.m s.requires.2 c.class_said-class.ensures c.if-class-used.false
+    let a = c.args in
+    place_joined a.terms a.sets (truth_of a.said.values) a.d c.requires.1 a.m c.requires.2 c.class_said-class.ensures c.if-class-used.false
 
 pub place_spec : {M : Type 1} → statement M
 place_spec =

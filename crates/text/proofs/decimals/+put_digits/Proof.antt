@@ -73,10 +73,8 @@ put_digits_returns : (t : ℕ) → put_digits_lts.Need-returns-then-n-lt10 (
   put-digits.Post,
 ) (put_digits_at t) put-digits.Post
 put_digits_returns t c =
-    let d = c in
-    let e = d in
-    let one = digits_one e.args.n e.args.n d.if-n-lt10.true in
-    (ap length (sym one), d.put_byte.ensures ∙ sym (laid_one e.args.at _ e.args.buf.now) ∙ ap (λ l. laid e.args.at l e.args.buf.now) (sym one))
+    let one = digits_one c.args.n c.args.n c.if-n-lt10.true in
+    (ap length (sym one), c.put_byte.ensures ∙ sym (laid_one c.args.at _ c.args.buf.now) ∙ ap (λ l. laid c.args.at l c.args.buf.now) (sym one))
 
 -- src/decimals.rt:33:9
 put-digits-put-digits-requires : (t : ℕ) → put_digits_lts.Need-put_digits-tens-requires (
@@ -113,10 +111,8 @@ put_digits_add_put_byte_3 : (t : ℕ) → put_digits_lts.Need-overflow_add-at (
   put-digits.Post,
 ) (put_digits_at t) put-digits.Post
 put_digits_add_put_byte_3 t c =
-    let p = c in
-    let e = p in
-    let small : e.args.n < 2 ^ 64 = search rules in
-    omega (arith, p.put_digits-tens.ensures.0, decimal_few (e.args.n / 10), small, e.requires.1)
+    let small : c.args.n < 2 ^ 64 = search rules in
+    omega (arith, c.put_digits-tens.ensures.0, decimal_few (c.args.n / 10), small, c.requires.1)
 
 -- src/decimals.rt:34:5
 put-digits-put-byte-requires-2 : (t : ℕ) → put_digits_lts.Need-put_byte-requires-2 (
@@ -135,10 +131,8 @@ put_digits_add_result : (t : ℕ) → put_digits_lts.Need-overflow_add-result (
   put-digits.Post,
 ) (put_digits_at t) put-digits.Post
 put_digits_add_result t c =
-    let p = c in
-    let e = p in
-    let small : e.args.n < 2 ^ 64 = search rules in
-    omega (arith, p.put_digits-tens.ensures.0, decimal_few (e.args.n / 10), small)
+    let small : c.args.n < 2 ^ 64 = search rules in
+    omega (arith, c.put_digits-tens.ensures.0, decimal_few (c.args.n / 10), small)
 
 -- src/decimals.rt:25:1
 put_digits_same_length_2 : (t : ℕ) → put_digits_lts.Need-shape_of-buf (
@@ -157,15 +151,12 @@ put_digits_returns_2 : (t : ℕ) → put_digits_lts.Need-returns (
   put-digits.Post,
 ) (put_digits_at t) put-digits.Post
 put_digits_returns_2 t c =
-    let d = c in
-    let p = d in
-    let e = p in
-    let n = e.args.n in
-    let more = decimal_more n (omega (arith, p.if-n-lt10.false)) in
-    let count = p.put_digits-tens.ensures.0 in (
+    let n = c.args.n in
+    let more = decimal_more n (omega (arith, c.if-n-lt10.false)) in
+    let count = c.put_digits-tens.ensures.0 in (
       omega (arith, count, ap length more, length-append (decimal (n / 10)) (digit (n % 10) ∷ [])),
-      d.put_byte-2.ensures ∙ ap₂ (λ l k. set l (e.args.at + k) (digit (n % 10))) p.put_digits-tens.ensures.1 count
-          ∙ sym (laid_one _ _ _) ∙ laid_behind e.args.at (decimal (n / 10)) (digit (n % 10) ∷ []) e.args.buf.now ∙ ap (λ l. laid e.args.at l e.args.buf.now) (sym more),
+      c.put_byte-2.ensures ∙ ap₂ (λ l k. set l (c.args.at + k) (digit (n % 10))) c.put_digits-tens.ensures.1 count
+          ∙ sym (laid_one _ _ _) ∙ laid_behind c.args.at (decimal (n / 10)) (digit (n % 10) ∷ []) c.args.buf.now ∙ ap (λ l. laid c.args.at l c.args.buf.now) (sym more),
     )
 
 pub +put_digits_spec : {M : Type 1} → statement M
