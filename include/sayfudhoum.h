@@ -13,8 +13,8 @@
  * - They are total: any bytes of any length may be handed in. What is wrong is refused by a number.
  * - They allocate nothing, keep no state and write nothing but what is said below. Several threads
  *   may call them at the same time, with buffers of their own.
- * - A call needs at most 32 KiB of stack, whatever the question (measured: 31,280 bytes);
- *   sayfudhoum_judge needs at most 2 KiB (measured: 1,512 bytes).
+ * - A call needs at most 32 KiB of stack, whatever the question (measured: 29,332 bytes);
+ *   sayfudhoum_judge needs at most 2 KiB (measured: 1,176 bytes).
  * - A slice is a pointer and the length behind it: the question, a solver's lines and a model, which are
  *   read, or a buffer, which is lent to be written. A pointer must not be null, and the bytes of its slice
  *   must be there: in what is read as many that can be read, and in each buffer as many that can be

@@ -1,60 +1,30 @@
--- The tests of an answer as walks: what one turn does, and how the walk ends.
-use Prim.Native.Nat.{ℕ, suc, ◌+◌, ◌≤◌, ◌<◌, max}
-use mathlib.Core.Path.{◌≡◌, sym, ap₂, ◌∙◌}
-use mathlib.Core.Bool.{true, false, cond}
-use mathlib.Core.List.{List, [], ◌∷◌}
-use native.Mathlib.Omega.{arith}
+-- The count of classes as a walk: what one turn does, and how the walk ends.
+use Prim.Native.Nat.{ℕ, ◌+◌, ◌≤◌, ◌<◌, max}
+use mathlib.Core.Path.{◌≡◌}
+use mathlib.Core.Bool.{cond}
+use mathlib.Core.List.{List}
 use native.Mathlib.Numerals.{add-one}
-use borrow.Author.Tests.{le-leb, lt-leb, lt-ltb, le-ltb}
-use lib.ListN.{length, get_or, take, drop, length-take, drop_of_length-le}
-use lib.Seq.{drop-cons, get_or-take, length-take-le}
+use borrow.Author.Tests.{le-leb, lt-leb}
+use lib.ListN.{length, get_or, drop, drop_of_length-le}
+use lib.Seq.{drop-cons}
+use Rattle.std.proofs.Common.{Option, Some, None}
 use Rattle.theory.specs.Arrangements.{classes_after}
-use Rattle.answer.specs.declared.checks.ClassCount.{ClassCount}
-use Rattle.answer.specs.declared.checks.ClassCount.TheVariants.{Classes, Against}
-use Rattle.answer.specs.Checks.{may_follow, all_below}
+use Rattle.answer.specs.Checks.{may_follow}
 
 -- the classes that class numbers make where `used` stand before them
-abbrev pub count_from : ℕ → List ℕ → ClassCount
-count_from used l = cond (may_follow used l) (Classes (classes_after used l)) Against
+abbrev pub count_from : ℕ → List ℕ → Option ℕ
+count_from used l = cond (may_follow used l) (Some (classes_after used l)) None
 
--- the first n of some numbers, from the index i on
-module _ (l : List ℕ) (n i : ℕ) where
-  abbrev pub from : List ℕ
-  from = drop i (take n l)
+-- the class numbers from the index i on
+module _ (l : List ℕ) (i used : ℕ) where
+  pub count_more : i < length l → get_or l i 0 ≤ used → count_from used (drop i l) ≡ count_from (max used (get_or l i 0 + 1)) (drop (i + 1) l)
+  unfolding may_follow
+  count_more h e = rw (drop-cons l i 0 h, add-one i, add-one (get_or l i 0), le-leb (get_or l i 0) used e)
 
-  abbrev pub next : List ℕ
-  next = drop (i + 1) (take n l)
+  pub count_against : i < length l → used < get_or l i 0 → count_from used (drop i l) ≡ None
+  unfolding may_follow
+  count_against h e = rw (drop-cons l i 0 h, lt-leb (get_or l i 0) used e)
 
-  turn : n ≤ length l → i < n → from ≡ get_or l i 0 ∷ next
-  turn h k = drop-cons (take n l) i 0 (omega (arith, length-take-le n l h)) ∙ ap₂ (λ x j. x ∷ drop j (take n l)) (get_or-take n l i 0 k) (sym (add-one i))
-
-  end : n ≤ i → from ≡ []
-  end k = drop_of_length-le (take n l) {i = i} (omega (arith, length-take n l))
-
-  -- class numbers, where `used` classes stand before them
-  module _ (used : ℕ) where
-    pub count_more : n ≤ length l → i < n → get_or l i 0 ≤ used → count_from used from ≡ count_from (max used (suc (get_or l i 0))) next
-    unfolding may_follow
-    count_more h k e = rw (turn h k, le-leb (get_or l i 0) used e)
-
-    pub count_against : n ≤ length l → i < n → used < get_or l i 0 → count_from used from ≡ Against
-    unfolding may_follow
-    count_against h k e = rw (turn h k, lt-leb (get_or l i 0) used e)
-
-    pub count_end : n ≤ i → count_from used from ≡ Classes used
-    unfolding may_follow
-    count_end k = rw (end k)
-
-  -- masks below a bound
-  module _ (bound : ℕ) where
-    pub below_more : n ≤ length l → i < n → get_or l i 0 < bound → all_below bound from ≡ all_below bound next
-    unfolding all_below
-    below_more h k e = rw (turn h k, lt-ltb (get_or l i 0) bound e)
-
-    pub below_fails : n ≤ length l → i < n → bound ≤ get_or l i 0 → all_below bound from ≡ false
-    unfolding all_below
-    below_fails h k e = rw (turn h k, le-ltb (get_or l i 0) bound e)
-
-    pub below_end : n ≤ i → all_below bound from ≡ true
-    unfolding all_below
-    below_end k = rw (end k)
+  pub count_end : length l ≤ i → count_from used (drop i l) ≡ Some used
+  unfolding may_follow
+  count_end h = rw (drop_of_length-le l {i = i} h)

@@ -28,13 +28,11 @@ follow_tested used [] f = refl
 follow_tested used (c ∷ l) f = rw (le-leb c used f.0, follow_tested (max used (suc c)) l f.1)
 
 below : (bound : ℕ) (ms : List ℕ) → all_below bound ms ≡ true → (k : ℕ) → k < length ms → get_or ms k 0 < bound
-unfolding all_below
 below bound [] e k h = absurd (omega arith)
 below bound (m ∷ ms) e zero h = ltb-true m bound (both_true (ltb m bound) (all_below bound ms) e).0
 below bound (m ∷ ms) e (suc k) h = below bound ms (both_true (ltb m bound) (all_below bound ms) e).1 k (omega arith)
 
 below_tested : (bound : ℕ) (ms : List ℕ) → ((k : ℕ) → k < length ms → get_or ms k 0 < bound) → all_below bound ms ≡ true
-unfolding all_below
 below_tested bound [] h = refl
 below_tested bound (m ∷ ms) h = rw (lt-ltb m bound (h 0 (omega arith)), below_tested bound ms (λ k less. h (suc k) (omega arith)))
 

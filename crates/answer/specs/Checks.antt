@@ -1,12 +1,9 @@
 -- The tests of an answer: class numbers by the rule, and masks below a bound.
-use Rattle.std.specs.Prelude.{ℕ, suc, max, Bool, true, ◌&&◌, cond, List, [], ◌∷◌, leb, ltb}
+use Rattle.std.specs.Prelude.{ℕ, suc, max, Bool, true, ◌&&◌, cond, List, [], ◌∷◌, leb, ltb, Option as Maybe, Some, None}
+use Rattle.std.specs.List.{list_all}
 use Rattle.std.proofs.Math.Option.{Option, none, some}
 use Rattle.theory.specs.Arrangements.{classes}
 use Rattle.theory.specs.Solutions.{Solution}
-use Rattle.answer.specs.declared.checks.ClassCount.{ClassCount}
-use Rattle.answer.specs.declared.checks.ClassCount.TheVariants.{Classes, Against}
-use Rattle.answer.specs.declared.checks.AnswerCheck.{AnswerCheck}
-use Rattle.answer.specs.declared.checks.AnswerCheck.TheVariants.{Good, Bad}
 
 -- may these class numbers follow where `used` classes stand: each is at most one more than the largest before it
 unfoldable pub may_follow : ℕ → List ℕ → Bool
@@ -18,13 +15,12 @@ abbrev pub is_arrangement : List ℕ → Bool
 is_arrangement l = may_follow 0 l
 
 -- how many classes they make, if they are
-abbrev pub class_count : List ℕ → ClassCount
-class_count l = cond (is_arrangement l) (Classes (classes l)) Against
+abbrev pub class_count : List ℕ → Maybe ℕ
+class_count l = cond (is_arrangement l) (Some (classes l)) None
 
 -- is each mask below the bound
-unfoldable pub all_below : ℕ → List ℕ → Bool
-all_below bound [] = true
-all_below bound (m ∷ ms) = ltb m bound && all_below bound ms
+abbrev pub all_below : ℕ → List ℕ → Bool
+all_below bound ms = list_all (λ m. ltb m bound) ms
 
 -- 11 or not: of an impossible answer nothing is looked at
 abbrev pub is_good : ℕ → Option Solution → Bool
@@ -36,5 +32,6 @@ abbrev pub classes_in : Option Solution → ℕ
 classes_in none = 0
 classes_in (some sol) = classes sol.arrangement
 
-abbrev pub answer_check : ℕ → Option Solution → AnswerCheck
-answer_check bound s = cond (is_good bound s) (Good (classes_in s)) Bad
+-- how many classes an answer has, if it is good
+abbrev pub answer_check : ℕ → Option Solution → Maybe ℕ
+answer_check bound s = cond (is_good bound s) (Some (classes_in s)) None

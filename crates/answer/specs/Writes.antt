@@ -1,5 +1,5 @@
 -- The writer of answer files: what it answers, and the lent buffer after the call.
-use Rattle.std.specs.Prelude.{ℕ, cond, List}
+use Rattle.std.specs.Prelude.{ℕ, cond, List, Err}
 use Rattle.std.proofs.Math.Option.{Option}
 use Rattle.question.specs.declared.questions.Question.{Question}
 use Rattle.outcome.specs.Refusals.{refusal, bad_model}
@@ -9,15 +9,14 @@ use Rattle.question.specs.Checks.{checked}
 use Rattle.theory.specs.Solutions.{Solution}
 use Rattle.theory.specs.Answers.{mask_bound}
 use Rattle.answer.specs.declared.answers.Answer.{Answer}
-use Rattle.outcome.specs.declared.writes.Written.{Written}
-use Rattle.outcome.specs.declared.writes.Written.TheVariants.{Refused}
+use Rattle.outcome.specs.Writes.{Written}
 use Rattle.answer.specs.Answers.{said}
 use Rattle.answer.specs.Bytes.{file_of}
 use Rattle.answer.specs.Checks.{is_good}
 
 -- 11 for an answer that is not good, then 10
 unfoldable pub good_written : ℕ → Option Solution → ℕ → Written
-good_written bound s room = cond (is_good bound s) (fitted (file_of s) room) (Refused (refusal bad_model 0))
+good_written bound s room = cond (is_good bound s) (fitted (file_of s) room) (Err (refusal bad_model 0))
 
 unfoldable pub good_over : ℕ → Option Solution → List ℕ → List ℕ
 good_over bound s old = cond (is_good bound s) (fitted_over (file_of s) old) old

@@ -1,5 +1,6 @@
 // The answer to a question: a verdict, the class number of each term, and the mask of each class.
 // Class numbers past the terms and masks past the classes are ignored; of an impossible answer only the verdict is looked at.
+// The arrays are fixed, for want of a heap.
 ghost use Rattle.std.specs.Prelude.{◌≡◌};
 ghost use Rattle.answer.specs.Answers.{filler, impossible_answer};
 
@@ -22,7 +23,7 @@ impl Answer {
         + Question::MAX_TERMS
         + Question::MAX_TERMS * MASK_BYTES;
 
-    // What stands beside a refusal. It says possible: who forgets to look at the refusal is not told "impossible".
+    // An answer for who needs a value to start from. It says possible, so that nobody is told "impossible" by it. (Beside a refusal no value stands.)
     pub fn filler() -> Answer
         ensures { result ≡ filler }
     {

@@ -16,11 +16,9 @@ pub(crate) fn mask_body(masks: [u32; Question::MAX_TERMS], classes: usize) -> [u
     ensures { take (classes * mask_bytes) result ≡ masks_body mask_bytes (take classes masks) }
 {
     let mut body = [0u8; LONGEST_BODY];
-    let mut k: usize = 0;
-    while k < classes {
+    for k in 0..classes {
         let at = k * MASK_BYTES;
-        put_number(masks[k] as u64, &mut body[at..at + MASK_BYTES]);
-        k += 1;
+        put_number(u64::from(masks[k]), &mut body[at..at + MASK_BYTES]);
     }
     body
 }

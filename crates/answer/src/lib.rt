@@ -8,5 +8,5 @@ mod reads;
 mod writes;
 
 pub use answers::Answer;
-pub use reads::{ReadAnswer, read_answer};
+pub use reads::read_answer;
 pub use writes::write_answer;

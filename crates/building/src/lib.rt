@@ -3,4 +3,4 @@
 
 mod builds;
 
-pub use builds::{Built, add, declare, drop_statements};
+pub use builds::{add, declare, drop_statements};

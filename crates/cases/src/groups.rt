@@ -1,75 +1,51 @@
 // A case as it stands on its line: a letter, then bytes in hexadecimal, in up to three groups with / between.
 // A solver's lines are the second group as text, with | for the end of each.
-ghost use Rattle.std.specs.Prelude.{◌≡◌, ◌≤◌, length};
+ghost use Rattle.std.specs.Prelude.{◌≡◌, ◌<◌, ◌≤◌, length, IfSome};
 
-// Where the next group starts on the line, and where the bytes of this one end.
+// What the line has behind a group, and where the bytes of the group end.
 #[derive(Clone, Copy)]
-pub struct Decoded {
-    pub next: usize,
+pub(crate) struct Decoded<'a> {
+    pub rest: &'a [u8],
     pub total: usize,
 }
 
-// The value of a digit, or 16 for anything else.
-fn digit(b: u8) -> u8 {
-    if b < b'0' {
-        return 16;
+// The value of a digit. A small letter is none, so this isn't `to_digit`.
+fn digit(b: u8) -> Option<u8>
+    ensures { IfSome result (λ d. d < 16) }
+{
+    match b {
+        b'0'..=b'9' => Some(b - b'0'),
+        b'A'..=b'F' => Some(b - b'A' + 10),
+        _ => None,
     }
-    if b <= b'9' {
-        return b - b'0';
-    }
-    if b < b'A' {
-        return 16;
-    }
-    if b <= b'F' {
-        return b - b'A' + 10;
-    }
-    16
 }
 
 // The byte that two digits say, or 0 where they aren't two.
 fn byte(high: u8, low: u8) -> u8 {
-    let h = digit(high);
-    let l = digit(low);
-    if h < 16 {
-        if l < 16 {
-            return h * 16 + l;
-        }
+    match (digit(high), digit(low)) {
+        (Some(h), Some(l)) => h * 16 + l,
+        _ => 0,
     }
-    0
 }
 
-// The bytes of the group that starts at `from`, into a lent buffer from `at` on; what doesn't fit is left out.
-pub(crate) fn decode(line: &[u8], from: usize, at: usize, bytes: &mut [u8]) -> Decoded
+// The bytes of the group that the line begins with, into a lent buffer from `at` on; what doesn't fit is left out.
+pub(crate) fn decode<'a>(line: &'a [u8], at: usize, bytes: &mut [u8]) -> Decoded<'a>
     requires { at ≤ length bytes.old }
     ensures { (at ≤ result.total) × (result.total ≤ length bytes.old) × (length bytes.new ≡ length bytes.old) }
 {
     let mut total = at;
-    let mut i = from;
-    while i < line.len() {
-        let b = line[i];
-        if b == b'/' {
-            return Decoded {
-                next: i + 1,
-                total: total,
-            };
+    let mut left = line;
+    loop {
+        match left {
+            [b'/', rest @ ..] => return Decoded { rest, total },
+            [b' ', rest @ ..] => left = rest,
+            [high, low, rest @ ..] if total < bytes.len() => {
+                bytes[total] = byte(*high, *low);
+                total += 1;
+                left = rest;
+            }
+            _ => return Decoded { rest: &[], total },
         }
-        if b == b' ' {
-            i += 1;
-            continue;
-        }
-        if line.len() - i < 2 {
-            break;
-        }
-        if bytes.len() <= total {
-            break;
-        }
-        bytes[total] = byte(b, line[i + 1]);
-        total += 1;
-        i += 2;
-    }
-    Decoded {
-        next: line.len(),
-        total: total,
     }
 }
 
@@ -79,46 +55,37 @@ fn meant(b: u8) -> u8 {
 }
 
 // The bytes of a group of text, as `decode` has those of one in hexadecimal.
-fn spell(line: &[u8], from: usize, at: usize, bytes: &mut [u8]) -> Decoded
+fn spell<'a>(line: &'a [u8], at: usize, bytes: &mut [u8]) -> Decoded<'a>
     requires { at ≤ length bytes.old }
     ensures { (at ≤ result.total) × (result.total ≤ length bytes.old) × (length bytes.new ≡ length bytes.old) }
 {
     let mut total = at;
-    let mut i = from;
-    while i < line.len() {
-        let b = line[i];
-        if b == b'/' {
-            return Decoded {
-                next: i + 1,
-                total: total,
-            };
+    let mut left = line;
+    loop {
+        match left {
+            [b'/', rest @ ..] => return Decoded { rest, total },
+            [b, rest @ ..] if total < bytes.len() => {
+                bytes[total] = meant(*b);
+                total += 1;
+                left = rest;
+            }
+            _ => return Decoded { rest: &[], total },
         }
-        if bytes.len() <= total {
-            break;
-        }
-        bytes[total] = meant(b);
-        total += 1;
-        i += 1;
-    }
-    Decoded {
-        next: line.len(),
-        total: total,
     }
 }
 
 // The second group of a case: text beside the letters that have a solver's lines there.
-pub(crate) fn second_group(
+pub(crate) fn second_group<'a>(
     letter: u8,
-    line: &[u8],
-    from: usize,
+    line: &'a [u8],
     at: usize,
     bytes: &mut [u8],
-) -> Decoded
+) -> Decoded<'a>
     requires { at ≤ length bytes.old }
     ensures { (at ≤ result.total) × (result.total ≤ length bytes.old) × (length bytes.new ≡ length bytes.old) }
 {
-    if (letter == b'L') | (letter == b'V') {
-        return spell(line, from, at, bytes);
+    match letter {
+        b'L' | b'V' => spell(line, at, bytes),
+        _ => decode(line, at, bytes),
     }
-    decode(line, from, at, bytes)
 }

@@ -2,34 +2,19 @@
 // compared with the file stdout: a line that starts with # is printed as it is, any other is a case and prints its outcome.
 #![tactic(auto)]
 
-ghost use Rattle.std.specs.Prelude.{◌≤◌, max, length};
-
 mod commands;
 mod groups;
 mod models;
 mod outcomes;
 mod tables;
 
-// Where the line ends that starts at `at`.
-fn line_end(input: &[u8], at: usize) -> usize
-    ensures { (at ≤ result) × (result ≤ max at (length input.now)) }
-{
-    let mut end = at;
-    while end < input.len() {
-        if input[end] == b'\n' {
-            return end;
-        }
-        end += 1;
-    }
-    end
-}
-
+// Each line has an end, the last one maybe not.
 fn run(input: &[u8]) {
-    let mut at: usize = 0;
-    while at < input.len() {
-        let end = line_end(input, at);
-        commands::run_line(&input[at..end]);
-        at = end + 1;
+    if !input.is_empty() {
+        let lines = input.strip_suffix(b"\n").unwrap_or(input);
+        for line in lines.split(|b| *b == b'\n') {
+            commands::run_line(line);
+        }
     }
 }
 

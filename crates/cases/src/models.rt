@@ -5,36 +5,28 @@ use crate::tables::byte_at;
 use answer::Answer;
 use judge::Model;
 use outcome::Verdict;
-use search::SearchAnswer;
+use search::Found;
 
-// The number that the four bytes from 4 i on say.
-fn word_at(bytes: &[u8], i: usize) -> u32 {
-    if 1024 <= i {
-        return 0;
-    }
-    let at = 4 * i;
-    let high = (byte_at(bytes, at) as u32) * 256 + byte_at(bytes, at + 1) as u32;
-    let low = (byte_at(bytes, at + 2) as u32) * 256 + byte_at(bytes, at + 3) as u32;
-    high * 65536 + low
+// The number that four bytes say; those that are missing are 0.
+fn word(four: &[u8]) -> u32 {
+    u32::from_be_bytes([
+        byte_at(four, 0),
+        byte_at(four, 1),
+        byte_at(four, 2),
+        byte_at(four, 3),
+    ])
 }
 
 // The numbers behind the first byte: the elements of names, or the class numbers of terms.
 fn numbers(bytes: &[u8]) -> [u8; 12] {
-    let mut numbers = [0u8; 12];
-    let mut i: usize = 0;
-    while i < 12 {
-        numbers[i] = byte_at(bytes, i + 1);
-        i += 1;
-    }
-    numbers
+    std::array::from_fn(|i| byte_at(bytes, i + 1))
 }
 
+// The masks behind one another, four bytes each.
 fn masks(memberships: &[u8]) -> [u32; 12] {
     let mut masks = [0u32; 12];
-    let mut i: usize = 0;
-    while i < 12 {
-        masks[i] = word_at(memberships, i);
-        i += 1;
+    for (mask, four) in masks.iter_mut().zip(memberships.chunks(4)) {
+        *mask = word(four);
     }
     masks
 }
@@ -49,10 +41,10 @@ pub(crate) fn model(points: &[u8], memberships: &[u8]) -> Model {
 }
 
 fn verdict(byte: u8) -> Verdict {
-    if byte == 0 {
-        return Verdict::Impossible;
+    match byte {
+        0 => Verdict::Impossible,
+        _ => Verdict::Possible,
     }
-    Verdict::Possible
 }
 
 // A verdict and the class numbers, then the masks.
@@ -65,13 +57,16 @@ pub(crate) fn answer(classes: &[u8], memberships: &[u8]) -> Answer {
 }
 
 // The model that the search found: a name's element is its class.
-pub(crate) fn model_of(answer: SearchAnswer) -> Model {
-    let arrangement = answer.arrangement;
-    let masks = answer.masks;
+pub(crate) fn model_of(found: Found) -> Model {
+    let Found {
+        classes,
+        arrangement,
+        masks,
+    } = found;
     Model {
-        size: answer.classes,
+        size: classes,
         elements: arrangement,
-        masks: masks,
+        masks,
     }
 }
 
@@ -79,13 +74,8 @@ pub(crate) fn model_of(answer: SearchAnswer) -> Model {
 pub(crate) fn fill_rows(bytes: &[u8], rows: &mut [u32]) -> usize
     ensures { (result ≤ length rows.old) × (length rows.new ≡ length rows.old) }
 {
-    let mut i: usize = 0;
-    while i < bytes.len() / 4 {
-        if rows.len() <= i {
-            return i;
-        }
-        rows[i] = word_at(bytes, i);
-        i += 1;
+    for (row, four) in rows.iter_mut().zip(bytes.chunks_exact(4)) {
+        *row = word(four);
     }
-    i
+    rows.len().min(bytes.len() / 4)
 }

@@ -1,11 +1,9 @@
 // How an outcome is printed.
 ghost use Rattle.std.specs.Prelude.{◌≡◌, length};
 
-use clash::ClashWritten;
-use judge::Judgement;
-use outcome::{Check, Refusal, Verdict, Written};
-use search::SearchAnswer;
-use solved::Solved;
+use clash::ClashCounts;
+use outcome::Refusal;
+use search::Found;
 
 const STDOUT_FILENO: i32 = 1;
 
@@ -18,77 +16,69 @@ pub(crate) fn number(n: usize) {
 }
 
 pub(crate) fn refusal(r: Refusal) {
-    let n = r.number;
-    let place = r.place;
     text(b"refused ");
-    number(n as usize);
+    number(r.number as usize);
     text(b" at ");
-    number(place);
+    number(r.place);
 }
 
-pub(crate) fn check(c: Check) {
+pub(crate) fn check(c: Result<(), Refusal>) {
     match c {
-        Check::Accepted => text(b"accepted"),
-        Check::Refused(r) => refusal(r),
+        Ok(()) => text(b"accepted"),
+        Err(r) => refusal(r),
     }
 }
 
-pub(crate) fn judgement(j: Judgement) {
+pub(crate) fn judgement(j: Result<Option<usize>, Refusal>) {
     match j {
-        Judgement::Yes => text(b"yes"),
-        Judgement::No(i) => {
+        Ok(None) => text(b"yes"),
+        Ok(Some(i)) => {
             text(b"no ");
             number(i);
         }
-        Judgement::Refused(r) => refusal(r),
+        Err(r) => refusal(r),
     }
 }
 
 // The number of a judgement, taken apart: a refusal in the lowest byte and its place above it; else an index, or 64 if all hold.
 pub(crate) fn judged(n: u64) {
-    let lowest = n % 256;
-    let rest = n / 256;
-    if lowest != 0 {
-        refusal(Refusal::new(lowest as u8, rest as usize));
-    } else if rest == 64 {
-        text(b"yes");
-    } else {
-        text(b"no ");
-        number(rest as usize);
+    match (n % 256, n / 256) {
+        (0, 64) => text(b"yes"),
+        (0, i) => {
+            text(b"no ");
+            number(i as usize);
+        }
+        (refused, place) => refusal(Refusal::new(refused as u8, place as usize)),
     }
 }
 
-// Rows in six hexadecimal digits.
+// Some numbers in so many hexadecimal digits each.
+fn hexadecimals<T: Copy + Into<u64>>(numbers: &[T], digits: usize) {
+    for n in numbers {
+        text(b" ");
+        io::print_hex(STDOUT_FILENO, (*n).into(), digits);
+    }
+}
+
 pub(crate) fn rows(rows: &[u32]) {
     number(rows.len());
-    let mut i: usize = 0;
-    while i < rows.len() {
-        text(b" ");
-        io::print_hex(STDOUT_FILENO, rows[i] as u64, 6);
-        i += 1;
-    }
+    hexadecimals(rows, 6);
 }
 
-// The bytes of a file in two hexadecimal digits each.
 pub(crate) fn bytes(file: &[u8]) {
-    let mut i: usize = 0;
-    while i < file.len() {
-        text(b" ");
-        io::print_hex(STDOUT_FILENO, file[i] as u64, 2);
-        i += 1;
-    }
+    hexadecimals(file, 2);
 }
 
 // The bytes that a writer put into a buffer.
-pub(crate) fn written(w: Written, file: &[u8]) {
+pub(crate) fn written(w: Result<usize, Refusal>, file: &[u8]) {
     match w {
-        Written::Count(count) => {
-            if count <= file.len() {
+        Ok(count) => {
+            if let Some(written) = file.get(..count) {
                 text(b"file");
-                bytes(&file[0..count]);
+                bytes(written);
             }
         }
-        Written::Refused(r) => refusal(r),
+        Err(r) => refusal(r),
     }
 }
 
@@ -103,14 +93,7 @@ pub(crate) fn lent() -> [u8; 768]
 
 // Is a lent buffer as it was from some place on.
 fn is_left(buf: &[u8], from: usize) -> bool {
-    let mut i = from;
-    while i < buf.len() {
-        if buf[i] != LENT {
-            return false;
-        }
-        i += 1;
-    }
-    true
+    buf.iter().skip(from).all(|b| *b == LENT)
 }
 
 fn untouched(is: bool) {
@@ -124,15 +107,21 @@ fn untouched(is: bool) {
 // So many bytes of a buffer.
 pub(crate) fn front(words: &[u8], buf: &[u8], count: usize) {
     text(words);
-    if count <= buf.len() {
-        bytes(&buf[0..count]);
+    if let Some(front) = buf.get(..count) {
+        bytes(front);
     }
 }
 
 // The three counts of a clash, and what was put into the buffers.
-pub(crate) fn clash(w: ClashWritten, part: &[u8], indexes: &[u8], answer: &[u8]) {
+pub(crate) fn clash(w: Result<ClashCounts, Refusal>, part: &[u8], indexes: &[u8], answer: &[u8]) {
     match w {
-        ClashWritten::Counts(p, i, a) => {
+        Ok(
+            ClashCounts {
+                part: p,
+                indexes: i,
+                answer: a,
+            },
+        ) => {
             text(b"counts ");
             number(p);
             text(b" ");
@@ -143,12 +132,12 @@ pub(crate) fn clash(w: ClashWritten, part: &[u8], indexes: &[u8], answer: &[u8])
             front(b", indexes", indexes, i);
             front(b", answer", answer, a);
             text(b", the rest");
-            untouched(is_left(part, p) & is_left(indexes, i) & is_left(answer, a));
+            untouched(is_left(part, p) && is_left(indexes, i) && is_left(answer, a));
         }
-        ClashWritten::Refused(r) => {
+        Err(r) => {
             refusal(r);
             text(b", buffers");
-            untouched(is_left(part, 0) & is_left(indexes, 0) & is_left(answer, 0));
+            untouched(is_left(part, 0) && is_left(indexes, 0) && is_left(answer, 0));
         }
     }
 }
@@ -162,74 +151,65 @@ fn refused(r: Refusal, buf: &[u8]) {
 
 // Lines of text, with | for the end of each.
 fn lines(words: &[u8]) {
-    let mut i: usize = 0;
-    while i < words.len() {
-        let b = words[i];
-        text(&[if b == b'\n' { b'|' } else { b }]);
-        i += 1;
+    for b in words {
+        text(&[if *b == b'\n' { b'|' } else { *b }]);
     }
 }
 
 // The text of clauses in a lent buffer.
-pub(crate) fn clauses(w: Written, buf: &[u8]) {
+pub(crate) fn clauses(w: Result<usize, Refusal>, buf: &[u8]) {
     match w {
-        Written::Count(count) => {
+        Ok(count) => {
             number(count);
             text(b" bytes ");
-            if count <= buf.len() {
-                lines(&buf[0..count]);
+            if let Some(front) = buf.get(..count) {
+                lines(front);
             }
             text(b", the rest");
             untouched(is_left(buf, count));
         }
-        Written::Refused(r) => refused(r, buf),
+        Err(r) => refused(r, buf),
     }
-}
-
-fn added(sum: u64, b: u8) -> u64 {
-    std::num::wrapping_add_u64(sum, b as u64)
 }
 
 // The sum of the sums of bytes from the first on, so that their order counts.
 fn sum(words: &[u8]) -> u64 {
-    let mut first: u64 = 0;
-    let mut second: u64 = 0;
-    let mut i: usize = 0;
-    while i < words.len() {
-        first = added(first, words[i]);
-        second = std::num::wrapping_add_u64(second, first);
-        i += 1;
+    let mut first = 0u64;
+    let mut second = 0u64;
+    for b in words {
+        first = first.wrapping_add(u64::from(*b));
+        second = second.wrapping_add(first);
     }
     second
 }
 
 // A long text of clauses: how many bytes it has, and their sum.
-pub(crate) fn long(w: Written, buf: &[u8]) {
+pub(crate) fn long(w: Result<usize, Refusal>, buf: &[u8]) {
     match w {
-        Written::Count(count) => {
+        Ok(count) => {
             number(count);
-            if count <= buf.len() {
+            if let Some(front) = buf.get(..count) {
                 text(b" bytes, sum ");
-                io::print_decimal(STDOUT_FILENO, sum(&buf[0..count]));
+                io::print_decimal(STDOUT_FILENO, sum(front));
             }
         }
-        Written::Refused(r) => refusal(r),
+        Err(r) => refusal(r),
     }
 }
 
 // What a solver's lines came to, and what was put into the buffer.
-pub(crate) fn solved(s: Solved, buf: &[u8]) {
+pub(crate) fn solved(s: Result<Option<usize>, Refusal>, buf: &[u8]) {
     match s {
-        Solved::Answered(count) => {
+        Ok(Some(count)) => {
             front(b"answer", buf, count);
             text(b", the rest");
             untouched(is_left(buf, count));
         }
-        Solved::SaidUnsatisfiable => {
+        Ok(None) => {
             text(b"said unsatisfiable, buffer");
             untouched(is_left(buf, 0));
         }
-        Solved::Refused(r) => refused(r, buf),
+        Err(r) => refused(r, buf),
     }
 }
 
@@ -237,50 +217,24 @@ pub(crate) fn hexadecimal(n: u64) {
     io::print_hex(STDOUT_FILENO, n, 6);
 }
 
-// The class numbers of so many terms.
-fn class_numbers(arrangement: [u8; 12], terms: usize) {
-    let mut i: usize = 0;
-    while i < 12 {
-        if i < terms {
-            text(b" ");
-            number(arrangement[i] as usize);
-        }
-        i += 1;
-    }
-}
-
-// The masks of so many classes.
-fn class_masks(masks: [u32; 12], classes: usize) {
-    let mut i: usize = 0;
-    while i < 12 {
-        if i < classes {
-            text(b" ");
-            number(masks[i] as usize);
-        }
-        i += 1;
+// The first ones of some numbers.
+fn decimals<T: Copy + Into<u64>>(numbers: &[T], count: usize) {
+    for n in numbers.iter().take(count) {
+        text(b" ");
+        io::print_decimal(STDOUT_FILENO, (*n).into());
     }
 }
 
 // The verdict of a search, and the model beside it.
-fn found(answer: SearchAnswer, terms: usize) {
-    let verdict = answer.verdict;
-    let arrangement = answer.arrangement;
-    let masks = answer.masks;
-    match verdict {
-        Verdict::Possible => {
+pub(crate) fn search_answer(answer: Result<Option<Found>, Refusal>, terms: usize) {
+    match answer {
+        Ok(Some(found)) => {
             text(b"possible");
-            class_numbers(arrangement, terms);
+            decimals(&found.arrangement, terms);
             text(b" /");
-            class_masks(masks, answer.classes);
+            decimals(&found.masks, found.classes);
         }
-        Verdict::Impossible => text(b"impossible"),
-    }
-}
-
-pub(crate) fn search_answer(answer: SearchAnswer, terms: usize) {
-    let outcome = answer.outcome;
-    match outcome {
-        Check::Accepted => found(answer, terms),
-        Check::Refused(r) => refusal(r),
+        Ok(None) => text(b"impossible"),
+        Err(r) => refusal(r),
     }
 }

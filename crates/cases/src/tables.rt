@@ -1,7 +1,9 @@
 // A table as it may be handed in, of any bytes: E, S, the count, then four bytes a statement, its tag and its names.
+pub(crate) use field::byte_at;
 use question::{Question, Record};
 use statement::{ElementName, SetName, Statement};
 
+// Any tag but those of the others is taken for 32: a table in memory has no other kinds.
 fn statement(tag: u8, a: u8, b: u8, c: u8) -> Statement {
     match tag {
         0x10 => Statement::ElementsEqual(ElementName(a), ElementName(b)),
@@ -18,29 +20,14 @@ fn statement(tag: u8, a: u8, b: u8, c: u8) -> Statement {
     }
 }
 
-pub(crate) fn byte_at(bytes: &[u8], at: usize) -> u8 {
-    if at < bytes.len() { bytes[at] } else { 0 }
-}
-
 pub(crate) fn table(bytes: &[u8]) -> Question {
     let mut q = Question::empty();
     q.elements = byte_at(bytes, 0);
     q.sets = byte_at(bytes, 1);
     q.count = byte_at(bytes, 2) as usize;
-    let mut i: usize = 0;
-    while i < 64 {
-        let at = 3 + 4 * i;
-        if bytes.len() <= at {
-            return q;
-        }
-        let s = statement(
-            byte_at(bytes, at),
-            byte_at(bytes, at + 1),
-            byte_at(bytes, at + 2),
-            byte_at(bytes, at + 3),
-        );
-        q.table[i] = Record { statement: s };
-        i += 1;
+    let statements = bytes.get(3..).unwrap_or(&[]);
+    for (record, s) in q.table.iter_mut().zip(statements.chunks(4)) {
+        record.statement = statement(byte_at(s, 0), byte_at(s, 1), byte_at(s, 2), byte_at(s, 3));
     }
     q
 }

@@ -1,7 +1,7 @@
 -- What it means that a question is impossible, for statements that make an accepted question: none of the assignments meets them. More statements stay impossible.
 use Prim.Native.Nat.{ℕ}
 use mathlib.Core.Path.{◌≡◌, refl, sym, ap, subst, ◌∙◌}
-use mathlib.Core.Bool.{true, false, not, cond}
+use mathlib.Core.Bool.{true, false, cond}
 use mathlib.Core.List.{List, [], ◌++◌}
 use mathlib.Core.Logic.{◌↔◌}
 use mathlib.Core.Option.{Option, none, some}
@@ -21,9 +21,9 @@ use Rattle.question.proofs.DroppedLaws.{accepted_dropped}
 use Rattle.theory.specs.Solutions.{Solution}
 use Rattle.theory.specs.Answers.{answer, as_model}
 use Rattle.theory.proofs.AnswerLaws.{answer_impossible, answer_assignment, answer_holds}
-use Rattle.search.specs.Answers.{is_possible, answer_of}
+use Rattle.search.specs.Answers.{answer_of}
 use Rattle.decision.proofs.DecisionLaws.{table_answer}
-use Rattle.clash.specs.Clashes.{is_none, impossible, kept_from, clashing, statements_at, part_of, without_model}
+use Rattle.clash.specs.Clashes.{is_none, impossible, kept_from, clashing, statements_at, part_of, finds_none, without_model}
 
 pub none_is : {A : Type 0} (o : Option A) → (is_none o ≡ true) ↔ (o ≡ none)
 none_is none = (λ e. refl, λ e. refl)
@@ -43,10 +43,10 @@ module _ (q : Question) (e : is_none (answer q) ≡ false) where
 module _ (q : Question) (is : IsAccepted q) where
   -- the search finds none exactly if there is none
   pub search_none : is_none (answer q) ≡ without_model q
-  unfolding without_model answer_of
-  search_none = go (answer q) ∙ ap (λ x. not (is_possible x.verdict)) (sym (table_answer q ((accepted q).1 is)))
+  unfolding without_model
+  search_none = go (answer q) ∙ ap finds_none (sym (table_answer q ((accepted q).1 is)))
     where
-      go : (o : Option Solution) → is_none o ≡ not (is_possible (answer_of o).verdict)
+      go : (o : Option Solution) → is_none o ≡ finds_none (answer_of o)
       go none = refl
       go (some sol) = refl
 

@@ -1,5 +1,6 @@
 -- What the clashing part of an accepted question is, in the words of the question's meaning: no assignment meets its statements, and without any one of them some assignment does.
 -- Its statements are those of the question at the indexes, which rise; it is accepted, and its file reads back as it.
+use Rattle.std.proofs.Common.{Ok}
 use Prim.Native.Nat.{ℕ, ◌+◌, ◌≤◌}
 use mathlib.Core.Path.{◌≡◌, refl, sym, ap, subst, ◌∙◌}
 use mathlib.Core.Bool.{Bool, true, false, cond}
@@ -7,7 +8,6 @@ use mathlib.Core.List.{List, [], ◌∷◌}
 use mathlib.Core.Logic.{◌↔◌, ◌⊎◌, inl, inr, ⊎_elim}
 use native.Mathlib.Omega.{arith}
 use lib.ListN.{length, length-map}
-use Rattle.outcome.specs.declared.checks.Check.TheVariants.{Accepted}
 use Rattle.statement.specs.declared.statements.Statement.{Statement}
 use Rattle.statement.specs.Statements.{witnesses}
 use Rattle.statement.specs.Meaning.{CantHold, CanHold}
@@ -20,7 +20,7 @@ use Rattle.question.proofs.AcceptedLaws.{accepted}
 use Rattle.question.proofs.BuildLaws.{declaring_of, statements_of, terms_of_lem}
 use Rattle.question.proofs.DroppedLaws.{accepted_dropped}
 use Rattle.question_file.specs.Bytes.{file_bytes, question_bytes}
-use Rattle.question_file.specs.Reads.{read_question}
+use Rattle.question_file.specs.Reads.{read_question, asked}
 use Rattle.question_file.proofs.RoundTrips.{read_back}
 use Rattle.theory.specs.Answers.{answer}
 use Rattle.theory.proofs.AnswerLaws.{answer_same}
@@ -126,7 +126,7 @@ module _ (q : Question) (is : IsAccepted q) where
       empty_accepted : IsAccepted (declaring E S)
       empty_accepted = rw (declaring_of E S) (record { few_elements = is.few_elements; few_sets = is.few_sets; few_statements = omega arith; all_declared = rw (statements_of E S [] (omega arith)) tt; few_terms = rw (terms_of_lem E S [] (omega arith)) (no_more) })
 
-  pub part_checked : checked (part_of q) ≡ Accepted
+  pub part_checked : checked (part_of q) ≡ Ok tt
   part_checked = (accepted (part_of q)).1 part_accepted
 
   -- its names are the question's, and its statements those at the indexes, in their order
@@ -153,9 +153,9 @@ module _ (q : Question) (is : IsAccepted q) where
       cant_or_can
 
   -- its file reads back as it
-  pub part_back : read_question (question_bytes (part_of q)) ≡ record { outcome = Accepted; question = part_of q }
+  pub part_back : read_question (question_bytes (part_of q)) ≡ Ok (part_of q)
   unfolding part_of
-  part_back = read_back (part_of q) part_checked ∙ ap (λ l. record { outcome = Accepted; question = question_of E S l }) part_stated
+  part_back = read_back (part_of q) part_checked ∙ ap (λ l. Ok (question_of E S l)) part_stated
 
   -- and it is the question's own file exactly if nothing could be spared
   pub part_whole : CantHold E ss → (question_bytes (part_of q) ≡ question_bytes q) ↔ IsClash E ss
@@ -166,4 +166,4 @@ module _ (q : Question) (is : IsAccepted q) where
   )
     where
       same : question_bytes (part_of q) ≡ question_bytes q → statements (part_of q) ≡ ss
-      same e = sym (ap (λ r. statements r.question) part_back) ∙ ap (λ b. statements (read_question b).question) e ∙ ap (λ r. statements r.question) (read_back q ((accepted q).1 is)) ∙ stated E S ss again
+      same e = sym (ap (λ r. statements (asked r)) part_back) ∙ ap (λ b. statements (asked (read_question b))) e ∙ ap (λ r. statements (asked r)) (read_back q ((accepted q).1 is)) ∙ stated E S ss again

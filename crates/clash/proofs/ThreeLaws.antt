@@ -1,4 +1,5 @@
 -- Three lent buffers: all are written where each has room, and else none.
+use Rattle.std.proofs.Common.{Ok, Err}
 use Prim.Native.Nat.{ℕ, ◌≤◌, ◌<◌}
 use mathlib.Core.Path.{◌≡◌, refl, ap, ap₂, ◌∙◌}
 use mathlib.Core.Bool.{Bool, true, false, ◌||◌}
@@ -7,8 +8,6 @@ use mathlib.Core.Logic.{⊎_elim}
 use lib.ListN.{length}
 use borrow.Author.Tests.{lt-ltb, le-ltb, ltb-false}
 use Rattle.outcome.specs.declared.refusals.Refusal.{Refusal}
-use Rattle.outcome.specs.declared.checks.Check.TheVariants.{Accepted}
-use Rattle.outcome.specs.declared.writes.Written.TheVariants.{Refused as NotWritten}
 use Rattle.outcome.specs.Refusals.{refusal, buffer_too_short}
 use Rattle.outcome.specs.Writes.{over, too_short}
 use Rattle.outcome.proofs.Never.{never}
@@ -17,22 +16,21 @@ use Rattle.question.specs.declared.questions.Question.{Question}
 use Rattle.question.specs.Checks.{checked}
 use Rattle.question_file.specs.Bytes.{question_bytes}
 use Rattle.question_file.specs.Writes.{written}
-use Rattle.clash.specs.declared.files.ClashWritten.TheVariants.{Counts, Refused}
-use Rattle.clash.specs.Files.{Three, three, any_short, three_written, three_over}
+use Rattle.clash.specs.Files.{Three, three, counts, any_short, three_written, three_over}
 
 pub three_same : {a b c x y z : List ℕ} → a ≡ x → b ≡ y → c ≡ z → three a b c ≡ three x y z
 three_same {a} {b} {c} {x} {y} {z} p q r = ap (λ l. three l b c) p ∙ ap₂ (λ l m. three x l m) q r
 
 -- a part that is refused by its writer does not fit
-pub refused_short : (q : Question) (room : ℕ) (r : Refusal) → checked q ≡ Accepted → written q room ≡ NotWritten r → (room < length (question_bytes q)) × (r ≡ refusal buffer_too_short 0)
+pub refused_short : (q : Question) (room : ℕ) (r : Refusal) → checked q ≡ Ok tt → written q room ≡ Err r → (room < length (question_bytes q)) × (r ≡ refusal buffer_too_short 0)
 unfolding written
 refused_short q room r ok e = ⊎_elim (λ c. never cc) (λ s. (s.1, s.2)) (not_written (checked q) (question_bytes q) room r e)
 
 module _ (new old : Three) where
-  pub three_short : any_short new old ≡ true → (three_written new old ≡ Refused (refusal buffer_too_short 0)) × (three_over new old ≡ old)
+  pub three_short : any_short new old ≡ true → (three_written new old ≡ Err (refusal buffer_too_short 0)) × (three_over new old ≡ old)
   three_short e = rw e (refl, refl)
 
-  pub three_fit : any_short new old ≡ false → (three_written new old ≡ Counts (length new.part) (length new.indexes) (length new.answer))
+  pub three_fit : any_short new old ≡ false → (three_written new old ≡ Ok (counts new))
       × (three_over new old ≡ three (over new.part old.part) (over new.indexes old.indexes) (over new.answer old.answer))
   three_fit e = rw e (refl, refl)
 

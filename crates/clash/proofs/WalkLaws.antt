@@ -1,4 +1,6 @@
 -- The walk of the code, turn by turn: how far it has come, and that what it has kept and what is still ahead make up the clashing part.
+use Rattle.std.proofs.Common.{Option, Some, None, IfSome}
+use Rattle.std.proofs.lemmas.Option.{IfSome_then}
 use Prim.Native.Nat.{ℕ, ◌+◌, ◌≤◌, ◌<◌}
 use mathlib.Core.Path.{◌≡◌, refl, sym, ap, ap₂, subst, ◌∙◌}
 use mathlib.Core.Bool.{true, false, cond}
@@ -42,7 +44,7 @@ module _ (q : Question) where
   remain done i = statements_at q done ++ drop i ss
 
   -- how far the walk has come
-  pub record Walked (part : Question) (indexes : List ℕ) (kept i bound : ℕ) : Type 0 where
+  pub record Walked (part : Question) (indexes : List ℕ) (kept i : ℕ) (bound : Option ℕ) : Type 0 where
     pub done : List ℕ
     pub here : kept ≡ length done
     pub stored : indexes ≡ padded max_statements done
@@ -51,7 +53,7 @@ module _ (q : Question) where
     pub stands : part ≡ question_of E S (remain done i)
     pub accepts : Accepts E S (remain done i)
     pub ahead : clashing q ≡ done ++ kept_from E S (statements_at q done) i (drop i ss)
-    pub known : bound ≤ length ss → impossible E S (remain done bound) ≡ false
+    pub known : IfSome bound (λ b. impossible E S (remain done b) ≡ false)
 
   -- what remains without the first statements
   first_is : (n : ℕ) → dropped q 0 n ≡ question_of E S (drop n ss)
@@ -88,10 +90,10 @@ module _ (q : Question) where
       stands = first_is start.from;
       accepts = first_accepts start.from;
       ahead = all_ahead;
-      known = λ h. ap (λ p. is_none (answer p)) (sym (first_is start.bound)) ∙ may.known (omega (arith, full));
+      known = IfSome_then start.bound may.known (λ b e. ap (λ p. is_none (answer p)) (sym (first_is b)) ∙ e);
     }
 
-  module _ {part : Question} {indexes : List ℕ} {kept i bound : ℕ} (w : Walked part indexes kept i bound) where
+  module _ {part : Question} {indexes : List ℕ} {kept i : ℕ} {bound : Option ℕ} (w : Walked part indexes kept i bound) where
     -- what remains without the next n statements
     rest_is : (n : ℕ) → dropped part kept n ≡ question_of E S (remain w.done (i + n))
     unfolding dropped
@@ -126,7 +128,7 @@ module _ (q : Question) where
     }
 
     -- or it can't be dropped
-    pub walk_bounds : (n : ℕ) → is_none (answer (dropped part kept n)) ≡ false → Walked part indexes kept i (i + n)
+    pub walk_bounds : (n : ℕ) → is_none (answer (dropped part kept n)) ≡ false → Walked part indexes kept i (Some (i + n))
     walk_bounds n e = record {
       done = w.done;
       here = w.here;
@@ -136,11 +138,11 @@ module _ (q : Question) where
       stands = w.stands;
       accepts = w.accepts;
       ahead = w.ahead;
-      known = λ h. sym (rest_tested n) ∙ e;
+      known = sym (rest_tested n) ∙ e;
     }
 
     -- a statement is kept, and then nothing is known of the next
-    module _ (room : length ss ≤ max_statements) (lt : i < length ss) (b : bound ≡ i + 1) where
+    module _ (room : length ss ≤ max_statements) (lt : i < length ss) (b : bound ≡ Some (i + 1)) where
       abbrev s : Statement
       s = get_or ss i idle.statement
 
@@ -153,7 +155,7 @@ module _ (q : Question) where
       same : remain (w.done ++ (i ∷ [])) (i + 1) ≡ remain w.done i
       same = ap (λ l. l ++ drop (i + 1) ss) more ∙ append_assoc (statements_at q w.done) (s ∷ []) (drop (i + 1) ss) ∙ ap (λ l. statements_at q w.done ++ l) (sym front)
 
-      pub walk_keeps : Walked part (set indexes kept i) (kept + 1) (i + 1) (max_statements + 1)
+      pub walk_keeps : Walked part (set indexes kept i) (kept + 1) (i + 1) None
       walk_keeps = record {
         done = w.done ++ (i ∷ []);
         here = omega (arith, w.here, length-append w.done (i ∷ []));
@@ -166,10 +168,10 @@ module _ (q : Question) where
             w.ahead
             ∙ ap (λ l. w.done ++ l)
             (ap (kept_from E S (statements_at q w.done) i) front
-            ∙ kept_needed E S (statements_at q w.done) (drop (i + 1) ss) i s (subst (λ k. impossible E S (remain w.done k) ≡ false) b (w.known (omega arith)))
+            ∙ kept_needed E S (statements_at q w.done) (drop (i + 1) ss) i s (subst (λ o. IfSome o (λ k. impossible E S (remain w.done k) ≡ false)) b w.known)
             ∙ ap₂ (λ l k. i ∷ kept_from E S l k (drop (i + 1) ss)) (sym more) (sym (add-one i)))
             ∙ sym (append_assoc w.done (i ∷ []) (kept_from E S (statements_at q (w.done ++ (i ∷ []))) (i + 1) (drop (i + 1) ss)));
-        known = λ h. absurd (omega arith);
+        known = tt;
       }
 
     -- at the end what was kept is the clashing part

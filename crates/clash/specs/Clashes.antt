@@ -1,6 +1,8 @@
 -- Which statements clash: one walk over the indexes, in which each step is one question, "is it still impossible without this one".
-use Rattle.std.specs.Prelude.{ℕ, suc, ◌≤◌, ◌<◌, Bool, true, false, not, cond, List, [], ◌∷◌, ◌++◌, map, get_or}
+use Rattle.std.specs.Prelude.{ℕ, suc, ◌≤◌, ◌<◌, Bool, true, false, cond, List, [], ◌∷◌, ◌++◌, map, get_or}
+use Rattle.std.specs.Prelude.{Option as Possibly, Some, None, Result, Ok, Err}
 use Rattle.std.proofs.Math.Option.{Option, none, some}
+use Rattle.outcome.specs.declared.refusals.Refusal.{Refusal}
 use Rattle.outcome.specs.Checks.{accepted_then}
 use Rattle.outcome.specs.Padded.{padded}
 use Rattle.statement.specs.declared.statements.Statement.{Statement}
@@ -10,10 +12,10 @@ use Rattle.question.specs.Questions.{idle, question_of, statements}
 use Rattle.question.specs.Checks.{checked}
 use Rattle.question.specs.Builds.{declaring}
 use Rattle.theory.specs.Answers.{answer}
-use Rattle.search.specs.Answers.{is_possible}
+use Rattle.search.specs.declared.answers.Found.{Found}
+use Rattle.answer.specs.declared.answers.Answer.{Answer}
 use Rattle.answer.specs.Answers.{as_answer}
-use Rattle.decision.specs.declared.decisions.Decision.{Decision}
-use Rattle.decision.specs.Decisions.{table_searched, undecided, decided_as}
+use Rattle.decision.specs.Decisions.{table_searched}
 use Rattle.clash.specs.declared.walks.Kept.{Kept}
 use Rattle.clash.specs.declared.clashes.ClashingPart.{ClashingPart}
 
@@ -49,9 +51,15 @@ statements_at q is = map (λ i. get_or (statements q) i idle.statement) is
 unfoldable pub part_of : Question → Question
 part_of q = question_of q.elements q.sets (statements_at q (clashing q))
 
+-- does a search say that there is no model, neither one nor a refusal
+abbrev pub finds_none : Result (Possibly Found) Refusal → Bool
+finds_none (Ok None) = true
+finds_none (Ok (Some f)) = false
+finds_none (Err r) = false
+
 -- does the search find no model in the rows of a table as it stands
 unfoldable pub without_model : Question → Bool
-without_model q = not (is_possible (table_searched q).verdict)
+without_model q = finds_none (table_searched q)
 
 -- what is kept: the clashing part with its indexes, or nothing
 abbrev pub clash_kept : Question → Kept
@@ -60,10 +68,14 @@ clash_kept q = record { part = part_of q; indexes = padded max_statements (clash
 abbrev pub none_kept : Question → Kept
 none_kept q = record { part = declaring q.elements q.sets; indexes = padded max_statements [] }
 
--- the finder's result where this was decided and that was kept
-abbrev pub with_kept : Decision → Kept → ClashingPart
-with_kept d k = record { outcome = d.outcome; part = k.part; indexes = k.indexes; answer = d.answer }
+-- what is found where this is the answer and that was kept
+abbrev pub with_kept : Answer → Kept → ClashingPart
+with_kept a k = record { part = k.part; indexes = k.indexes; answer = a }
 
--- the refusals of the table, with nothing kept; else the clashing part, its indexes, and the answer to the question itself
-unfoldable pub clashed : Question → ClashingPart
-clashed q = accepted_then (checked q) (λ r. with_kept (undecided r) (none_kept q)) (with_kept (decided_as (as_answer (answer q))) (clash_kept q))
+-- a refusal, or what was found
+abbrev pub Clash : Type 0
+Clash = Result ClashingPart Refusal
+
+-- the refusals of the table; else the clashing part, its indexes, and the answer to the question itself
+unfoldable pub clashed : Question → Clash
+clashed q = accepted_then (checked q) Err (Ok (with_kept (as_answer (answer q)) (clash_kept q)))

@@ -2,18 +2,17 @@
 ghost use Rattle.std.specs.Prelude.{◌≡◌};
 ghost use Rattle.clash.specs.Clashes.{none_kept, clashed};
 
-use crate::starts::begin;
+use crate::starts::{Begun, begin};
 use crate::walks::{Kept, walk};
 use answer::Answer;
 use building::declare;
-use outcome::{Check, Verdict};
+use outcome::{Refusal, Verdict};
 use question::Question;
 
-// Whether the question is decided; its clashing part as a question, and the old index of each statement in it; and the question's answer.
-// A possible question has a part without statements, and so has a refused one. Indexes past those of the part are 0.
+// The clashing part of a question that is decided, as a question; the old index of each statement in it; and the question's answer.
+// A possible question has a part without statements. The indexes are a fixed array, for want of a heap: those past the part's are 0.
 #[derive(Clone, Copy)]
 pub struct ClashingPart {
-    pub outcome: Check,
     pub part: Question,
     pub indexes: [u8; Question::MAX_STATEMENTS],
     pub answer: Answer,
@@ -23,33 +22,25 @@ pub struct ClashingPart {
 fn keep_none(q: Question) -> Kept
     ensures { result ≡ none_kept q }
 {
-    let indexes: [u8; Question::MAX_STATEMENTS] = [0; Question::MAX_STATEMENTS];
     Kept {
         part: declare(q.elements, q.sets),
-        indexes: indexes,
+        indexes: [0; Question::MAX_STATEMENTS],
     }
 }
 
-// The refusals of the table; else the clashing part, and the answer to the question itself. The filler beside a refusal says possible, so nothing is kept there.
-pub fn clash(q: Question) -> ClashingPart
+// The refusals of the table; else the clashing part, and the answer to the question itself.
+pub fn clash(q: Question) -> Result<ClashingPart, Refusal>
     ensures { result ≡ clashed q }
 {
-    let begun = begin(q);
-    let decision = begun.decision;
-    let outcome = decision.outcome;
-    let answer = decision.answer;
-    let verdict = answer.verdict;
-    let start = begun.start;
-    let kept = match verdict {
+    let Begun { answer, start } = begin(q)?;
+    let kept = match answer.verdict {
         Verdict::Possible => keep_none(q),
         Verdict::Impossible => walk(q, start),
     };
-    let part = kept.part;
-    let indexes = kept.indexes;
-    ClashingPart {
-        outcome: outcome,
-        part: part,
-        indexes: indexes,
-        answer: answer,
-    }
+    let Kept { part, indexes } = kept;
+    Ok(ClashingPart {
+        part,
+        indexes,
+        answer,
+    })
 }

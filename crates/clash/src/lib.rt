@@ -8,4 +8,4 @@ mod starts;
 mod walks;
 
 pub use clashes::{ClashingPart, clash};
-pub use files::{ClashWritten, clash_file};
+pub use files::{ClashCounts, clash_file};

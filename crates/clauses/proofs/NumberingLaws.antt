@@ -1,34 +1,21 @@
--- The numbers of variables, a step at a time, and how large they are at the most where the terms and sets fit in a byte.
-use Prim.Native.Nat.{ℕ, zero, suc, ◌+◌, ◌-◌, ◌*◌, ◌≤◌, ◌<◌}
-use mathlib.Core.Path.{◌≡◌}
+-- The numbers of variables as sums, and how large they are at the most where the terms and sets fit in a byte.
+use Prim.Native.Nat.{ℕ, zero, suc, ◌+◌, ◌-◌, ◌*◌, ◌≤◌}
+use mathlib.Core.Path.{◌≡◌, refl, sym, ap, ap₂, ◌∙◌}
+use mathlib.Core.List.{[], ◌∷◌, ◌++◌}
 use native.Mathlib.Omega.{arith}
 use native.Mathlib.Nat.{mul-le-mul_left}
 use native.Mathlib.Numerals.{add-one}
+use Rattle.std.specs.List.{sum, sum_by, range_with_len}
+use Rattle.std.proofs.Common.{zero-add}
+use Rattle.std.proofs.lemmas.List.{map-id}
+use Rattle.std.proofs.lemmas.List.FromFn.{map-range_with_len_more}
+use Rattle.std.proofs.lemmas.List.Sums.{sum_by-cons, sum_by_push}
 use Rattle.clauses.specs.Variables.{pair_count, pair_index}
-
--- the pairs of one term more
-pub pair_count_next : (n : ℕ) → pair_count (n + 1) ≡ pair_count n + n
-unfolding pair_count
-pair_count_next n = rw (add-one n) (omega arith)
 
 pub pair_count_most : (n : ℕ) → n ≤ 255 → pair_count n ≤ n * 255
 unfolding pair_count
 pair_count_most zero h = omega arith
 pair_count_most (suc n) h = omega (arith, pair_count_most n (omega arith))
-
--- the pairs before those of a term one place on, and those of term 0
-pub pair_index_next : (terms c d : ℕ) → 0 < c → pair_index terms c d ≡ (terms - 1) + pair_index (terms - 1) (c - 1) (d - 1)
-unfolding pair_index
-pair_index_next terms zero d h = absurd (omega arith)
-pair_index_next terms (suc c) d h = let one : suc c - 1 ≡ c = omega arith in rw one
-
--- the same, where some pairs are counted and those one place on are left
-pub pair_index_step : {total left high : ℕ} (index terms c d : ℕ) → left ≡ terms - 1 → high ≡ d - 1 → 0 < c → index + pair_index terms c d ≡ total → index + left + pair_index left (c - 1) high ≡ total
-pair_index_step index terms c d e f less all = rw (e, f) (omega (arith, pair_index_next terms c d less))
-
-pub pair_index_first : (terms c d : ℕ) → c ≡ 0 → pair_index terms c d ≡ d - 1
-unfolding pair_index
-pair_index_first terms c d e = rw e
 
 pub pair_index_most : (terms c d : ℕ) → terms ≤ 255 → d ≤ 255 → pair_index terms c d ≤ c * 255 + 255
 unfolding pair_index
@@ -38,3 +25,27 @@ pair_index_most terms (suc c) d h k = omega (arith, pair_index_most (terms - 1) 
 -- a product of two bytes
 pub product_most : (m n : ℕ) → m ≤ 255 → n ≤ 255 → m * n ≤ 65025
 product_most m n h k = omega (arith, mul-le-mul_left m k)
+
+-- so many pairs as the numbers below sum up to
+pub pair_count_sum : (n : ℕ) → pair_count n ≡ sum (range_with_len 0 n)
+unfolding pair_count
+pair_count_sum zero = refl
+pair_count_sum (suc n) =
+    let numbers = range_with_len 0 in
+    let more = sym (map-id (numbers (n + 1))) ∙ map-range_with_len_more (λ x. x) 0 n n (zero-add n) ∙ ap (λ l. l ++ (n ∷ [])) (map-id (numbers n)) in
+    omega (arith, pair_count_sum n, ap (λ m. sum (numbers m)) (sym (add-one n)), ap sum more, sum_by_push (λ x. x) (numbers n) n)
+
+-- the pairs of each lower term from a on, then those of the pair's own term
+pair_index_from : (terms d : ℕ) (a c : ℕ) → pair_index (terms - a) c (d - a) ≡ sum_by (λ i. terms - (i + 1)) (range_with_len a c) + (d - a - c - 1)
+unfolding pair_index
+pair_index_from terms d a zero = omega arith
+pair_index_from terms d a (suc c) =
+    let t : terms - a - 1 ≡ terms - (a + 1) = omega arith in
+    let e : d - a - 1 ≡ d - (a + 1) = omega arith in
+    rw (t, e, sum_by-cons (λ i. terms - (i + 1)) a (range_with_len (a + 1) c)) (omega (arith, pair_index_from terms d (a + 1) c))
+
+pub pair_index_sum : (terms c d : ℕ) → pair_index terms c d ≡ sum_by (λ i. terms - (i + 1)) (range_with_len 0 c) + (d - c - 1)
+pair_index_sum terms c d =
+    let t : terms ≡ terms - 0 = omega arith in
+    let e : d ≡ d - 0 = omega arith in
+    ap₂ (λ m n. pair_index m c n) t e ∙ pair_index_from terms d 0 c ∙ omega arith

@@ -2,43 +2,19 @@
 ghost use Rattle.std.specs.Prelude.{◌≡◌, ◌-◌};
 ghost use Rattle.clauses.specs.Variables.{pair_count, pair_index, pair_variable, in_variable, spare_variable};
 
-fn one_less(n: usize) -> usize
-    ensures { result ≡ n - 1 }
-{
-    if n == 0 {
-        return 0;
-    }
-    n - 1
-}
-
 // How many pairs so many terms have.
 fn pair_count(terms: u8) -> usize
     ensures { result ≡ pair_count terms }
 {
-    let mut count: usize = 0;
-    let mut n: u8 = 0;
-    while n < terms {
-        count += n as usize;
-        n += 1;
-    }
-    count
+    (0..terms as usize).sum()
 }
 
 // How many pairs stand before c, d: those of each term below c, then those of c.
 fn pair_index(terms: u8, c: u8, d: u8) -> usize
     ensures { result ≡ pair_index terms c d }
 {
-    let mut index: usize = 0;
-    let mut left = terms as usize;
-    let mut low = c;
-    let mut high = d as usize;
-    while 0 < low {
-        left = one_less(left);
-        high = one_less(high);
-        index += left;
-        low -= 1;
-    }
-    index + one_less(high)
+    let lower: usize = (0..c).map(|i| terms.saturating_sub(i + 1) as usize).sum();
+    lower + d.saturating_sub(c).saturating_sub(1) as usize
 }
 
 // The variable that says that c and d are the same, where c is below d.

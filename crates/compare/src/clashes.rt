@@ -6,53 +6,34 @@ use question::Question;
 
 // Can the statements hold with some pattern of equal names.
 fn is_possible(q: Question) -> bool {
-    let all = patterns(q.elements);
-    let mut p: usize = 0;
-    while p < all {
-        if exists(q, p) {
-            return true;
-        }
-        p += 1;
-    }
-    false
+    (0..patterns(q.elements)).any(|p| exists(q, p))
 }
 
 // The question without statement k.
 fn without(q: Question, k: usize) -> Question {
     let mut less = q;
-    let count = q.count;
-    if count <= k {
-        return q;
-    }
-    less.count = count - 1;
-    let mut i = k;
-    while i < 63 {
-        less.table[i] = q.table[i + 1];
-        i += 1;
+    if k < q.count {
+        less.count = q.count - 1;
+        for i in k..63 {
+            less.table[i] = q.table[i + 1];
+        }
     }
     less
 }
 
 // Are the statements that the walk keeps at these indexes, so many of them.
-fn are_kept(q: Question, indexes: [u8; 64], total: usize) -> bool {
-    let count = q.count;
+fn are_kept(q: Question, indexes: &[u8; 64], total: usize) -> bool {
     let mut left = q;
     let mut kept: usize = 0;
-    let mut i: usize = 0;
-    while i < 64 {
-        if count <= i {
-            return kept == total;
-        }
+    for i in 0..q.count.min(64) {
         let rest = without(left, kept);
         if is_possible(rest) {
-            if indexes[kept] as usize != i {
+            if usize::from(indexes[kept]) != i {
                 return false;
             }
             kept += 1;
-            i += 1;
         } else {
             left = rest;
-            i += 1;
         }
     }
     kept == total
@@ -60,31 +41,16 @@ fn are_kept(q: Question, indexes: [u8; 64], total: usize) -> bool {
 
 // Can't the statements hold, and can they without any one of them.
 fn is_clash(part: Question) -> bool {
-    if is_possible(part) {
-        return false;
-    }
-    let count = part.count;
-    let mut k: usize = 0;
-    while k < 64 {
-        if count <= k {
-            return true;
-        }
-        if !is_possible(without(part, k)) {
-            return false;
-        }
-        k += 1;
-    }
-    true
+    !is_possible(part) && (0..part.count.min(64)).all(|k| is_possible(without(part, k)))
 }
 
 // Is this the clashing part of a question, over the same names; that of a possible question is without statements.
-pub(crate) fn is_right(q: Question, possible: bool, part: Question, indexes: [u8; 64]) -> bool {
-    let total = part.count;
-    if (part.elements != q.elements) | (part.sets != q.sets) {
+pub(crate) fn is_right(q: Question, possible: bool, part: Question, indexes: &[u8; 64]) -> bool {
+    if part.elements != q.elements || part.sets != q.sets {
         return false;
     }
     if possible {
-        return total == 0;
+        return part.count == 0;
     }
-    are_kept(q, indexes, total) & is_clash(part)
+    are_kept(q, indexes, part.count) && is_clash(part)
 }

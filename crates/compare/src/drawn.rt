@@ -1,5 +1,5 @@
 // Questions drawn at random from a seed: at most three element names, four set names and ten statements, two of them x ≠ y.
-use crate::comparing::{Tally, compare};
+use crate::comparing::Tally;
 use question::{Question, Record};
 use statement::{ElementName, SetName, Statement, witness_of};
 
@@ -7,11 +7,32 @@ const QUESTIONS: u64 = 20000;
 
 const SEED: u64 = 0x5EED;
 
-// The next number of Marsaglia's xorshift generator.
-fn next(state: u64) -> u64 {
-    let a = state ^ (state << 13);
-    let b = a ^ (a >> 7);
-    b ^ (b << 17)
+// Marsaglia's xorshift generator.
+#[derive(Drop)]
+struct Generator {
+    state: u64,
+}
+
+impl Generator {
+    // The next number.
+    fn next(&mut self) -> u64 {
+        let a = self.state ^ (self.state << 13);
+        let b = a ^ (a >> 7);
+        self.state = b ^ (b << 17);
+        self.state
+    }
+
+    // A question. All ten records are drawn; the count says how many of them are stated.
+    fn draw(&mut self) -> Question {
+        let mut q = shape(self.next());
+        let mut differences: usize = 0;
+        for i in 0..10 {
+            let s = limited(statement(self.next(), q.elements, q.sets), differences);
+            differences = differences.wrapping_add(witness_of(s));
+            q.table[i] = Record { statement: s };
+        }
+        q
+    }
 }
 
 // Byte k of a number.
@@ -47,19 +68,10 @@ fn statement(r: u64, elements: u8, sets: u8) -> Statement {
     }
 }
 
-#[derive(Clone, Copy)]
-pub struct Drawn {
-    pub question: Question,
-    pub state: u64,
-}
-
 // The third x ≠ y and later ones are x = y, so that domains stay small.
 fn limited(s: Statement, differences: usize) -> Statement {
-    if differences < 2 {
-        return s;
-    }
     match s {
-        Statement::SetsDiffer(x, y) => Statement::SetsEqual(x, y),
+        Statement::SetsDiffer(x, y) if 2 <= differences => Statement::SetsEqual(x, y),
         _ => s,
     }
 }
@@ -73,34 +85,11 @@ fn shape(r: u64) -> Question {
     q
 }
 
-// A question, and the generator's state behind it. All ten records are drawn; the count says how many of them are stated.
-fn draw(state: u64) -> Drawn {
-    let mut r = next(state);
-    let mut q = shape(r);
-    let mut differences: usize = 0;
-    let mut i: usize = 0;
-    while i < 10 {
-        r = next(r);
-        let s = limited(statement(r, q.elements, q.sets), differences);
-        differences = std::num::wrapping_add_usize(differences, witness_of(s));
-        q.table[i] = Record { statement: s };
-        i += 1;
-    }
-    Drawn {
-        question: q,
-        state: r,
-    }
-}
-
 pub(crate) fn drawn_questions() -> Tally {
-    let mut counted = Tally::new();
-    let mut state = SEED;
-    let mut i: u64 = 0;
-    while i < QUESTIONS {
-        let drawn = draw(state);
-        counted = compare(counted, drawn.question);
-        state = drawn.state;
-        i += 1;
+    let mut counted = Tally::default();
+    let mut generator = Generator { state: SEED };
+    for _ in 0..QUESTIONS {
+        counted.compare(generator.draw());
     }
     counted
 }

@@ -11,6 +11,7 @@ mod models;
 mod orders;
 mod outside;
 mod patterns;
+mod pens;
 mod printing;
 mod said;
 mod small;

@@ -2,14 +2,14 @@
 // tools/cvc5_verdicts.py writes them: P (possible) or I (impossible), a space, and the question file in hexadecimal.
 ghost use Rattle.std.specs.Prelude.{◌≡◌, ◌<◌, ◌≤◌, length};
 
-use crate::comparing::{Tally, counted, differ, hold};
-use outcome::Check;
+use crate::comparing::Tally;
+use question::Question;
 use question_file::read_question;
 
-// Where the next line starts, and how many bytes this one has.
+// What the input has behind a line, and how many bytes the line says.
 #[derive(Clone, Copy)]
-struct Decoded {
-    next: usize,
+struct Decoded<'a> {
+    rest: &'a [u8],
     total: usize,
 }
 
@@ -25,57 +25,45 @@ fn digit(b: u8) -> u8
 }
 
 // The bytes that the rest of a line says, into a lent buffer.
-fn decode(input: &[u8], from: usize, bytes: &mut [u8]) -> Decoded
-    requires { from ≤ length input.now }
-    ensures { (from < result.next) × (result.total ≤ length bytes.old) × (length bytes.new ≡ length bytes.old) }
+fn decode<'a>(line: &'a [u8], bytes: &mut [u8]) -> Decoded<'a>
+    ensures { (length result.rest.now ≤ length line.now) × (result.total ≤ length bytes.old) × (length bytes.new ≡ length bytes.old) }
 {
-    let mut total: usize = 0;
-    let mut i = from;
-    while i < input.len() {
-        let b = input[i];
-        if b == b'\n' {
-            break;
+    let mut total = 0;
+    let mut left = line;
+    loop {
+        match left {
+            [b'\n', rest @ ..] => return Decoded { rest, total },
+            [high, low, rest @ ..] if total < bytes.len() => {
+                bytes[total] = digit(*high) * 16 + digit(*low);
+                total += 1;
+                left = rest;
+            }
+            [_, rest @ ..] => return Decoded { rest, total },
+            [] => return Decoded { rest: &[], total },
         }
-        if input.len() - i < 2 {
-            break;
-        }
-        if bytes.len() <= total {
-            break;
-        }
-        bytes[total] = digit(b) * 16 + digit(input[i + 1]);
-        total += 1;
-        i += 2;
-    }
-    Decoded {
-        next: i + 1,
-        total: total,
     }
 }
 
-// The library held to one verdict: the question file has so many of the bytes.
-fn verdict(t: Tally, letter: u8, bytes: &[u8], total: usize) -> Tally
-    requires { total ≤ length bytes.now }
-{
-    let read = read_question(&bytes[0..total]);
-    let outcome = read.outcome;
+// The library held to one verdict on the question file in these bytes.
+fn verdict(counted: &mut Tally, letter: u8, file: &[u8]) {
     let possible = letter == b'P';
-    match outcome {
-        Check::Accepted => counted(hold(t, read.question, possible), possible),
-        Check::Refused(_) => differ(t, read.question),
+    match read_question(file) {
+        Ok(question) => {
+            counted.hold(question, possible);
+            counted.count(possible);
+        }
+        Err(_) => counted.differ(Question::empty()),
     }
 }
 
 pub(crate) fn verdicts(input: &[u8]) -> Tally {
-    let mut t = Tally::new();
-    let mut at: usize = 0;
-    while at < input.len() {
-        if input.len() - at < 2 {
-            return t;
-        }
+    let mut counted = Tally::default();
+    let mut left = input;
+    while let [letter, _, line @ ..] = left {
         let mut bytes = io::buffer();
-        let line = decode(input, at + 2, &mut bytes);
-        t = verdict(t, input[at], &bytes, line.total);
-        at = line.next;
+        let decoded = decode(line, &mut bytes);
+        verdict(&mut counted, *letter, &bytes[..decoded.total]);
+        left = decoded.rest;
     }
-    t
+    counted
 }

@@ -1,4 +1,6 @@
 // Patterns of equal element names: every way in which up to three names can be equal, and the statements that say so.
+ghost use Rattle.std.specs.Prelude.{◌≤◌};
+
 use question::{Question, Record};
 use statement::{ElementName, Statement};
 
@@ -29,7 +31,9 @@ pub(crate) fn pattern(p: usize) -> [u8; 12] {
 }
 
 // How many domain elements so many names stand for.
-pub(crate) fn different(elements: u8, p: usize) -> u8 {
+pub(crate) fn different(elements: u8, p: usize) -> u8
+    ensures { result ≤ 3 }
+{
     if elements == 0 {
         return 0;
     }
@@ -51,21 +55,19 @@ fn with(q: Question, s: Statement) -> Question {
     more
 }
 
-// The question with what a pattern says of the names a and b, where b is declared.
-fn with_pair(q: Question, same: bool, a: u8, b: u8) -> Question {
-    if q.elements <= b {
-        return q;
-    }
-    if same {
-        return with(q, Statement::ElementsEqual(ElementName(a), ElementName(b)));
-    }
-    with(q, Statement::ElementsDiffer(ElementName(a), ElementName(b)))
-}
-
-// The question with a pattern stated, pair by pair.
+// The question with a pattern stated, pair by pair of declared names.
 pub(crate) fn stated(q: Question, p: usize) -> Question {
     let at = pattern(p);
-    let first = with_pair(q, at[0] == at[1], 0, 1);
-    let second = with_pair(first, at[0] == at[2], 0, 2);
-    with_pair(second, at[1] == at[2], 1, 2)
+    let mut more = q;
+    for (a, b) in [(0u8, 1u8), (0, 2), (1, 2)] {
+        if b < q.elements {
+            let s = if at[usize::from(a)] == at[usize::from(b)] {
+                Statement::ElementsEqual(ElementName(a), ElementName(b))
+            } else {
+                Statement::ElementsDiffer(ElementName(a), ElementName(b))
+            };
+            more = with(more, s);
+        }
+    }
+    more
 }

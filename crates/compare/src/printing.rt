@@ -1,6 +1,6 @@
 // What is printed: counts, and the first question on which the two solvers differ.
 use crate::comparing::Tally;
-use outcome::Written;
+use outcome::Refusal;
 use question::Question;
 use question_file::write_question;
 
@@ -11,11 +11,9 @@ pub(crate) fn text(words: &[u8]) {
 }
 
 fn bytes(file: &[u8]) {
-    let mut i: usize = 0;
-    while i < file.len() {
+    for b in file {
         text(b" ");
-        io::print_hex(STDOUT_FILENO, file[i] as u64, 2);
-        i += 1;
+        io::print_hex(STDOUT_FILENO, u64::from(*b), 2);
     }
 }
 
@@ -24,12 +22,12 @@ pub(crate) fn difference(q: Question) {
     text(b"the two differ on");
     let mut file = io::buffer();
     match write_question(q, &mut file) {
-        Written::Count(count) => {
-            if count <= 392 {
-                bytes(&file[0..count]);
+        Ok(count) => {
+            if let Some(written) = file.get(..count) {
+                bytes(written);
             }
         }
-        Written::Refused(_) => text(b" a question that is refused"),
+        Err(_) => text(b" a question that is refused"),
     }
     text(b"\n");
 }

@@ -1,28 +1,24 @@
 // Every question of a small shape: at most two element names and two set names with at most two statements, two of each with three.
-use crate::comparing::{Tally, compare};
-use outcome::Check;
+use crate::comparing::Tally;
+use outcome::Refusal;
 use question::{Question, Record, check};
 use statement::{ElementName, SetName, Statement};
 
 // The statements over two names of each sort.
 const STATEMENTS: u64 = 54;
 
-// The name that a bit says.
-fn bit(k: u64, place: u64) -> u8 {
-    match place {
-        0 => (k % 2) as u8,
-        1 => (k / 2 % 2) as u8,
-        _ => (k / 4 % 2) as u8,
-    }
+// The name that the lowest bit says.
+fn bit(k: u64) -> u8 {
+    (k % 2) as u8
 }
 
 // Statement k of these: eight kinds with two names or one, then three with three.
 fn statement(k: u64) -> Statement {
-    let a = ElementName(bit(k, 0));
-    let b = ElementName(bit(k, 1));
-    let x = SetName(bit(k, 0));
-    let y = SetName(bit(k, 1));
-    let z = SetName(bit(k, 2));
+    let a = ElementName(bit(k));
+    let b = ElementName(bit(k / 2));
+    let x = SetName(bit(k));
+    let y = SetName(bit(k / 2));
+    let z = SetName(bit(k / 4));
     match k {
         0..=3 => Statement::ElementsEqual(a, b),
         4..=7 => Statement::ElementsDiffer(a, b),
@@ -69,41 +65,30 @@ fn lists(count: usize) -> u64 {
 // Is list number k one to be tried: its names are declared, and of two lists of three that differ in the order of the first two it is one.
 fn is_tried(q: Question, k: u64) -> bool {
     match check(q) {
-        Check::Accepted => (q.count < 3) | (k % STATEMENTS <= k / STATEMENTS % STATEMENTS),
-        Check::Refused(_) => false,
+        Ok(()) => q.count < 3 || k % STATEMENTS <= k / STATEMENTS % STATEMENTS,
+        Err(_) => false,
     }
 }
 
-fn all_lists(t: Tally, elements: u8, sets: u8, count: usize) -> Tally {
-    let end = lists(count);
-    let mut counted = t;
-    let mut k: u64 = 0;
-    while k < end {
+fn all_lists(counted: &mut Tally, elements: u8, sets: u8, count: usize) {
+    for k in 0..lists(count) {
         let q = question(elements, sets, count, k);
         if is_tried(q, k) {
-            counted = compare(counted, q);
+            counted.compare(q);
         }
-        k += 1;
     }
-    counted
 }
 
-// At most two statements, over every number of names.
-fn all_shapes(t: Tally) -> Tally {
-    let mut counted = t;
-    let mut shape: u8 = 0;
-    while shape < 9 {
-        let elements = shape / 3;
-        let sets = shape % 3;
-        counted = all_lists(counted, elements, sets, 0);
-        counted = all_lists(counted, elements, sets, 1);
-        counted = all_lists(counted, elements, sets, 2);
-        shape += 1;
-    }
-    counted
-}
-
-// And three statements over two names of each sort.
+// At most two statements, over every number of names, and three statements over two names of each sort.
 pub(crate) fn every_question() -> Tally {
-    all_lists(all_shapes(Tally::new()), 2, 2, 3)
+    let mut counted = Tally::default();
+    for elements in 0..3 {
+        for sets in 0..3 {
+            for count in 0..3 {
+                all_lists(&mut counted, elements, sets, count);
+            }
+        }
+    }
+    all_lists(&mut counted, 2, 2, 3);
+    counted
 }

@@ -6,7 +6,9 @@
 // and for each statement x ≠ y one element in which x and y differ; take the others out of the domain and out of every
 // part. Every statement still holds, since each other kind says of the parts only what is the same at each element.
 // So with k different named elements and w statements x ≠ y, sizes up to k + w are enough; one more is tried.
-use crate::assignments::{Assignment, hold_so_far, with_part};
+ghost use Rattle.std.specs.Prelude.{◌≤◌};
+
+use crate::assignments::{Assignment, statements};
 use crate::orders::order_of;
 use crate::patterns::{different, pattern};
 use question::Question;
@@ -15,77 +17,60 @@ use statement::Statement;
 // Is there a part for each set name from `place` on, in the order given, so that every statement holds. The set names
 // in `known` have theirs, and `whole` is the domain as a part.
 fn sets_exist(
-    q: Question,
+    q: &Question,
     order: [u8; 4],
     whole: u16,
     v: Assignment,
     known: u16,
     place: usize,
 ) -> bool {
-    if !hold_so_far(q, v, known) {
+    if !v.hold_so_far(q, known) {
         return false;
     }
     if 4 <= place {
         return true;
     }
     let x = order[place];
-    let mut p: u16 = 0;
-    loop {
+    let known = known | 1u16 << (x % 16);
+    for p in 0..=whole {
         if sets_exist(
             q,
             order,
             whole,
-            with_part(v, x as usize, p),
-            known | (1u16 << (x % 16)),
+            v.with_part(usize::from(x), p),
+            known,
             place + 1,
         ) {
             return true;
         }
-        if whole <= p {
-            return false;
-        }
-        p += 1;
     }
+    false
 }
 
 // How many statements x ≠ y there are.
-fn differences(q: Question) -> u8 {
-    let count = q.count;
-    let mut total: u8 = 0;
-    let mut i: usize = 0;
-    while i < 64 {
-        if count <= i {
-            return total;
-        }
-        let entry = q.table[i];
-        let s = entry.statement;
-        if let Statement::SetsDiffer(_, _) = s {
-            total = std::num::wrapping_add_u8(total, 1);
-        }
-        i += 1;
-    }
-    total
+fn differences(q: &Question) -> u8
+    ensures { result ≤ 64 }
+{
+    statements(q)
+        .iter()
+        .filter(|r| matches!(r.statement, Statement::SetsDiffer(_, _)))
+        .count() as u8
 }
 
 // Is there an assignment of a pattern in which every statement holds. Which domain elements the names stand for makes no
 // difference, so one placing is tried.
 pub(crate) fn exists(q: Question, p: usize) -> bool {
-    let order = order_of(q);
+    let order = order_of(&q);
     let v = Assignment {
         elements: pattern(p),
         parts: [0; 16],
     };
-    let mut size = different(q.elements, p);
-    let most = std::num::wrapping_add_u8(size, std::num::wrapping_add_u8(differences(q), 1));
-    while size <= most {
-        if 16 <= size {
-            return false;
-        }
-        let whole = std::num::wrapping_sub_u16(1u16 << size, 1);
-        if sets_exist(q, order, whole, v, 0, 0) {
+    let least = different(q.elements, p);
+    let most = least + differences(&q) + 1;
+    for size in least..=most.min(15) {
+        if sets_exist(&q, order, (1u16 << size) - 1, v, 0, 0) {
             return true;
         }
-        size += 1;
     }
     false
 }

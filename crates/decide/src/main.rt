@@ -3,7 +3,7 @@
 #![tactic(auto)]
 
 use answer::Answer;
-use outcome::Written;
+use outcome::Refusal;
 use sayfudhoum::respond;
 
 fn main() {
@@ -12,9 +12,9 @@ fn main() {
     // Nothing that is written is longer than the longest answer, so 10 never comes (Program.antt in the library's proofs).
     let mut output = [0u8; Answer::MAX_BYTES];
     match respond(&input[0..n], &mut output) {
-        Written::Count(count) => {
+        Ok(count) => {
             io::write_all(1, &output[0..count]);
         }
-        Written::Refused(_) => {}
+        Err(_) => {}
     }
 }

@@ -1,4 +1,5 @@
 -- The answer to an accepted question is one that may be said: written, it is the file of the answer, which is never longer than the longest.
+use Rattle.std.proofs.Common.{Ok, Err}
 use Prim.Native.Nat.{ℕ, ◌≤◌}
 use mathlib.Core.Path.{◌≡◌, refl}
 use mathlib.Core.Bool.{true}
@@ -8,8 +9,6 @@ use native.Mathlib.Omega.{arith}
 use lib.ListN.{length}
 use Rattle.question.specs.declared.questions.Question.{Question}
 use Rattle.outcome.specs.declared.refusals.Refusal.{Refusal}
-use Rattle.outcome.specs.declared.checks.Check.TheVariants.{Accepted, Refused}
-use Rattle.outcome.specs.declared.writes.Written.TheVariants.{Refused as NotWritten}
 use Rattle.answer.specs.declared.answers.Answer.{Answer}
 use Rattle.decision.specs.Answers.{question_answered, question_answered_over}
 use Rattle.question.specs.Questions.{terms_of}
@@ -26,7 +25,7 @@ use Rattle.answer.specs.Writes.{good_written, good_over, written, written_over}
 use Rattle.answer.proofs.AnswerLaws.{none_length, some_length}
 use Rattle.answer.proofs.MayLaws.{may_good, may_few, as_said}
 
-module _ (q : Question) (e : checked q ≡ Accepted) where
+module _ (q : Question) (e : checked q ≡ Ok tt) where
   pub answer_may : MaySay (terms_of q) (mask_bound q) (answer q)
   answer_may = go (answer q) refl
     where
@@ -60,15 +59,10 @@ module _ (q : Question) (e : checked q ≡ Accepted) where
 
 -- what is answered to a question, and the buffer, by whether its table is accepted
 module _ (q : Question) where
-  pub answered_accepted : (old : List ℕ) → checked q ≡ Accepted → (question_answered q (length old) ≡ fitted (file_of (answer q)) (length old)) × (question_answered_over q old ≡ fitted_over (file_of (answer q)) old)
+  pub answered_accepted : (old : List ℕ) → checked q ≡ Ok tt → (question_answered q (length old) ≡ fitted (file_of (answer q)) (length old)) × (question_answered_over q old ≡ fitted_over (file_of (answer q)) old)
   unfolding question_answered question_answered_over
   answered_accepted old e = rw e (refl, refl)
 
-  pub answered_refused : (old : List ℕ) (r : Refusal) → checked q ≡ Refused r → (question_answered q (length old) ≡ NotWritten r) × (question_answered_over q old ≡ old)
+  pub answered_refused : (old : List ℕ) (r : Refusal) → checked q ≡ Err r → (question_answered q (length old) ≡ Err r) × (question_answered_over q old ≡ old)
   unfolding question_answered question_answered_over
   answered_refused old r e = rw e (refl, refl)
-
-  -- whatever answer stands beside it, a refused question's is not written
-  pub refused_written : (a : Answer) (old : List ℕ) (r : Refusal) → checked q ≡ Refused r → (written q a (length old) ≡ NotWritten r) × (written_over q a old ≡ old)
-  unfolding written written_over
-  refused_written a old r e = rw e (refl, refl)

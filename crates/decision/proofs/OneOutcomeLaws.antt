@@ -2,13 +2,9 @@
 use Rattle.outcome.specs.OneResult.{OneResult}
 use Rattle.outcome.specs.OneOutcome.{OneOutcome}
 use Rattle.outcome.proofs.OneLaw.{both}
-use Rattle.decision.proofs.decisions.Decision.refused.Reads as refused
 use Rattle.decision.proofs.decisions.search_table.Reads as search_table
 use Rattle.decision.proofs.decisions.decide.Reads as decide
 use Rattle.decision.proofs.answers.answer_question.Reads as answer_question
-
-refused_one : OneResult refused.Learnt
-refused_one κs given x y s t = both
 
 search_table_one : OneResult search_table.Learnt
 search_table_one κs given x y s t = both

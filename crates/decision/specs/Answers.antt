@@ -1,6 +1,6 @@
 -- The answer to a question, written: what the call answers, and the lent buffer after it.
 use Rattle.std.specs.Prelude.{ℕ, List}
-use Rattle.outcome.specs.declared.writes.Written.{Written}
+use Rattle.outcome.specs.Writes.{Written}
 use Rattle.outcome.specs.Writes.{fitted, fitted_over, checked_then, checked_over}
 use Rattle.question.specs.declared.questions.Question.{Question}
 use Rattle.question.specs.Checks.{checked}

@@ -4,14 +4,12 @@ ghost use Rattle.decision.specs.Answers.{question_answered, question_answered_ov
 
 use crate::decisions::decide;
 use answer::write_answer;
-use outcome::Written;
+use outcome::Refusal;
 use question::Question;
 
 // The answer's file: the refusals of the table, then 10 if the buffer is shorter than this answer. A refused call leaves the buffer as it was.
-pub fn answer_question(q: Question, buf: &mut [u8]) -> Written
+pub fn answer_question(q: Question, buf: &mut [u8]) -> Result<usize, Refusal>
     ensures { (result ≡ question_answered q (length buf.old)) × (buf.new ≡ question_answered_over q buf.old) }
 {
-    let decision = decide(q);
-    let answer = decision.answer;
-    write_answer(q, answer, buf)
+    write_answer(q, decide(q)?, buf)
 }

@@ -5,4 +5,4 @@ mod answers;
 mod decisions;
 
 pub use answers::answer_question;
-pub use decisions::{Decision, decide, search_table};
+pub use decisions::{decide, search_table};

@@ -1,14 +1,14 @@
--- The walk over the clauses: where some clauses leave the cursor, what they leave in the buffer, and that there are numbers for them.
-use Rattle.std.specs.Prelude.{ℕ, ◌+◌, ◌-◌, ◌≤◌, ◌≡◌, List, [], ◌∷◌, ◌++◌, length}
+-- The walk over the clauses: the writer behind some bytes and behind some clauses, and that there are numbers for them.
+use Rattle.std.specs.Prelude.{ℕ, ◌+◌, ◌-◌, ◌≤◌, List, [], ◌∷◌, ◌++◌, length}
 use Rattle.text.specs.Pieces.{space, line_end}
 use Rattle.text.specs.declared.literals.Literal.{Literal}
 use Rattle.text.specs.Decimals.{digit, decimal}
 use Rattle.text.specs.Literals.{literal_text}
 use Rattle.text.specs.Laid.{laid}
 use Rattle.theory.specs.Rules.{upward}
-use Rattle.dimacs.specs.declared.cursors.Cursor.{Cursor}
+use Rattle.dimacs.specs.declared.writers.Writer.{Writer}
 use Rattle.clauses.specs.Clauses.{Clause, for_each}
-use Rattle.clauses.specs.Texts.{clause_lines, longest_clauses}
+use Rattle.clauses.specs.Texts.{clause_line, longest_clauses}
 
 -- a literal with its space, and what stands behind the literals of a clause
 abbrev pub word_text : Literal → List ℕ
@@ -21,21 +21,26 @@ end_text = digit 0 ∷ line_end ∷ []
 abbrev pub number_text : ℕ → ℕ → List ℕ
 number_text n end = decimal n ++ (end ∷ [])
 
--- some bytes were laid from the place `at` on, over the buffer `old`: that leaves the next place and the buffer `new`
-abbrev pub Put : ℕ → List ℕ → List ℕ → ℕ → List ℕ → Type 0
-Put at bytes old next new = (next ≡ at + length bytes) × (new ≡ laid at bytes old)
+-- the writer w behind some more bytes: they are laid into its buffer from its place on
+unfoldable pub put : Writer → List ℕ → Writer
+put w bytes = record w { buf = record w.buf { now = laid w.at bytes w.buf.now }; at = w.at + length bytes }
 
--- the cursor behind some clauses
-abbrev pub behind : Cursor → List Clause → Cursor
-behind c clauses = record { at = c.at + length (clause_lines clauses); clauses = c.clauses + length clauses }
+-- no byte of the longest text lies past these
+abbrev pub Fitting : Writer → List ℕ → Type 0
+Fitting w bytes = w.at + length bytes ≤ longest_clauses
 
--- the clauses were written from the cursor c on, over the buffer `old`: that leaves the cursor d and the buffer `new`
-abbrev pub Wrote : Cursor → List Clause → List ℕ → Cursor → List ℕ → Type 0
-Wrote c clauses old d new = (d ≡ behind c clauses) × (new ≡ laid c.at (clause_lines clauses) old)
+-- behind one more clause, and behind some
+abbrev pub wrote_one : Writer → Clause → Writer
+wrote_one w c = record (put w (clause_line c)) { clauses = w.clauses + 1 }
+
+abbrev pub wrote : Writer → List Clause → Writer
+wrote w [] = w
+wrote w (c ∷ cs) = wrote (wrote_one w c) cs
 
 -- no clause of the longest text lies past these
-abbrev pub Room : Cursor → List Clause → Type 0
-Room c clauses = (c.at + length (clause_lines clauses) ≤ longest_clauses) × (c.clauses + length clauses ≤ longest_clauses)
+abbrev pub Room : Writer → List Clause → Type 0
+Room w [] = Unit {0}
+Room w (c ∷ cs) = Fitting w (clause_line c) × (w.clauses + 1 ≤ longest_clauses) × Room (wrote_one w c) cs
 
 -- the clauses of the numbers from s on that are below n
 abbrev pub each : (ℕ → List Clause) → ℕ → ℕ → List Clause

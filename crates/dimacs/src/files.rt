@@ -3,20 +3,12 @@ ghost use Rattle.std.specs.Prelude.{◌≡◌, length};
 ghost use Rattle.dimacs.specs.Writes.{file_clauses, file_clauses_over};
 
 use crate::writes::write_clauses;
-use outcome::{Check, Written};
+use outcome::Refusal;
 use question_file::read_question;
 
 // The refusals of the file, then 10. A refused call leaves the buffer as it was.
-pub fn clauses_file(bytes: &[u8], buf: &mut [u8]) -> Written
+pub fn clauses_file(bytes: &[u8], buf: &mut [u8]) -> Result<usize, Refusal>
     ensures { (result ≡ file_clauses bytes.now (length buf.old)) × (buf.new ≡ file_clauses_over bytes.now buf.old) }
 {
-    let read = read_question(bytes);
-    let outcome = read.outcome;
-    match outcome {
-        Check::Refused(refusal) => Written::Refused(refusal),
-        Check::Accepted => {
-            let question = read.question;
-            write_clauses(question, buf)
-        }
-    }
+    write_clauses(read_question(bytes)?, buf)
 }

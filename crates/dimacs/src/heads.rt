@@ -1,41 +1,28 @@
 // The first line of the text: `p cnf`, how many variables, how many clauses.
-ghost use Rattle.std.specs.Prelude.{◌≡◌, [], ◌∷◌, ◌+◌, ◌≤◌, length};
-ghost use Rattle.text.specs.Decimals.{decimal};
-ghost use Rattle.clauses.specs.Texts.{problem, first_line, longest_clauses};
-ghost use Rattle.dimacs.specs.Walks.{number_text, Put};
+ghost use Rattle.std.specs.Prelude.{◌≡◌};
+ghost use Rattle.clauses.specs.Texts.{first_line};
+ghost use Rattle.dimacs.specs.Walks.{number_text, put, Fitting};
 
-use text::{put_byte, put_decimal};
+use crate::writers::Writer;
+use text::put_decimal;
 
-// `p cnf ` at the front.
-fn put_problem(buf: &mut [u8]) -> u32
-    ensures { Put 0 problem buf.old result buf.new }
-{
-    put_byte(0x70, 0, buf);
-    put_byte(0x20, 1, buf);
-    put_byte(0x63, 2, buf);
-    put_byte(0x6e, 3, buf);
-    put_byte(0x66, 4, buf);
-    put_byte(0x20, 5, buf);
-    6
-}
+impl Writer<'_> {
+    // A number and the byte behind it.
+    fn put_number(&mut self, n: usize, end: u8)
+        requires { Fitting self.old (number_text n end) }
+        ensures { self.new ≡ put self.old (number_text n end) }
+    {
+        self.at += put_decimal(n, self.at, self.buf) as u32;
+        self.put_byte(end);
+    }
 
-// A number and the byte behind it.
-fn put_number(n: usize, end: u8, at: u32, buf: &mut [u8]) -> u32
-    requires { at + length (number_text n end) ≤ longest_clauses }
-    ensures { Put at (number_text n end) buf.old result buf.new }
-{
-    let digits = put_decimal(n, at, buf);
-    let next = at + digits as u32;
-    put_byte(end, next as usize, buf);
-    next + 1
-}
-
-// The whole line; the place behind it is given back.
-pub(crate) fn put_head(variables: usize, clauses: usize, buf: &mut [u8]) -> u32
-    requires { length (first_line variables clauses) ≤ longest_clauses }
-    ensures { Put 0 (first_line variables clauses) buf.old result buf.new }
-{
-    let first = put_problem(buf);
-    let second = put_number(variables, 32, first, buf);
-    put_number(clauses, 10, second, buf)
+    // The whole line.
+    pub(crate) fn put_head(&mut self, variables: usize, clauses: usize)
+        requires { Fitting self.old (first_line variables clauses) }
+        ensures { self.new ≡ put self.old (first_line variables clauses) }
+    {
+        self.put_text(b"p cnf ");
+        self.put_number(variables, b' ');
+        self.put_number(clauses, b'\n');
+    }
 }

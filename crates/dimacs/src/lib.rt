@@ -2,15 +2,16 @@
 // One walk over the clauses serves twice: into a buffer of one byte it counts, into the lent one it writes.
 #![tactic(auto)]
 
-mod cursors;
 mod files;
 mod formulas;
 mod heads;
 mod literals;
 mod pairs;
 mod rows;
+mod shapes;
 mod tables;
 mod triples;
+mod writers;
 mod writes;
 
 pub use files::clauses_file;

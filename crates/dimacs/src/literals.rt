@@ -1,12 +1,10 @@
-// One clause into a lent buffer, literal by literal: each with a space behind it, then the 0 and the end of the line.
-ghost use Rattle.std.specs.Prelude.{◌≡◌, [], ◌∷◌, ◌+◌, ◌≤◌, length};
+// One clause, literal by literal: each with a space behind it, then the 0 and the end of the line.
+ghost use Rattle.std.specs.Prelude.{◌≡◌, [], ◌∷◌};
 ghost use Rattle.text.specs.Literals.{is as is_literal, is_not};
-ghost use Rattle.clauses.specs.Texts.{longest_clauses};
-ghost use Rattle.clauses.specs.Clauses.{one, two, three};
-ghost use Rattle.dimacs.specs.Walks.{word_text, end_text, Put, Wrote, Room};
+ghost use Rattle.dimacs.specs.Walks.{word_text, put, Fitting, wrote, Room};
 
-use crate::cursors::Cursor;
-use text::{Literal, put_byte, put_literal};
+use crate::writers::Writer;
+use text::{Literal, put_literal};
 
 // The variable, and its denial.
 pub(crate) fn is(variable: usize) -> Literal
@@ -14,7 +12,7 @@ pub(crate) fn is(variable: usize) -> Literal
 {
     Literal {
         denied: false,
-        variable: variable,
+        variable,
     }
 }
 
@@ -23,65 +21,29 @@ pub(crate) fn is_not(variable: usize) -> Literal
 {
     Literal {
         denied: true,
-        variable: variable,
+        variable,
     }
 }
 
-// A literal and a space.
-fn put_word(l: Literal, at: u32, buf: &mut [u8]) -> u32
-    requires { at + length (word_text l) ≤ longest_clauses }
-    ensures { Put at (word_text l) buf.old result buf.new }
-{
-    let length = put_literal(l, at, buf);
-    let end = at + length as u32;
-    put_byte(32, end as usize, buf);
-    end + 1
-}
-
-// The 0 behind the literals and the end of the line.
-fn put_end(at: u32, buf: &mut [u8]) -> u32
-    requires { at + length end_text ≤ longest_clauses }
-    ensures { Put at end_text buf.old result buf.new }
-{
-    let i = at as usize;
-    put_byte(48, i, buf);
-    put_byte(10, i + 1, buf);
-    at + 2
-}
-
-// A clause of one literal, of two, of three.
-pub(crate) fn put_one(p: Literal, from: Cursor, buf: &mut [u8]) -> Cursor
-    requires { Room from (one p ∷ []) }
-    ensures { Wrote from (one p ∷ []) buf.old result buf.new }
-{
-    let first = put_word(p, from.at, buf);
-    Cursor {
-        at: put_end(first, buf),
-        clauses: from.clauses + 1,
+impl Writer<'_> {
+    // A literal and a space.
+    fn put_word(&mut self, l: Literal)
+        requires { Fitting self.old (word_text l) }
+        ensures { self.new ≡ put self.old (word_text l) }
+    {
+        self.at += put_literal(l, self.at, self.buf) as u32;
+        self.put_byte(b' ');
     }
-}
 
-pub(crate) fn put_two(p: Literal, q: Literal, from: Cursor, buf: &mut [u8]) -> Cursor
-    requires { Room from (two p q ∷ []) }
-    ensures { Wrote from (two p q ∷ []) buf.old result buf.new }
-{
-    let first = put_word(p, from.at, buf);
-    let second = put_word(q, first, buf);
-    Cursor {
-        at: put_end(second, buf),
-        clauses: from.clauses + 1,
-    }
-}
-
-pub(crate) fn put_three(p: Literal, q: Literal, r: Literal, from: Cursor, buf: &mut [u8]) -> Cursor
-    requires { Room from (three p q r ∷ []) }
-    ensures { Wrote from (three p q r ∷ []) buf.old result buf.new }
-{
-    let first = put_word(p, from.at, buf);
-    let second = put_word(q, first, buf);
-    let third = put_word(r, second, buf);
-    Cursor {
-        at: put_end(third, buf),
-        clauses: from.clauses + 1,
+    // A clause of these literals.
+    pub(crate) fn put_clause(&mut self, literals: &[Literal])
+        requires { Room self.old (literals.now ∷ []) }
+        ensures { self.new ≡ wrote self.old (literals.now ∷ []) }
+    {
+        for l in literals {
+            self.put_word(*l);
+        }
+        self.put_text(b"0\n");
+        self.clauses += 1;
     }
 }

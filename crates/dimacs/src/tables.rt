@@ -2,18 +2,19 @@
 ghost use Rattle.std.specs.Prelude.{◌≡◌, map};
 ghost use Rattle.row.specs.Rows.{row_of};
 ghost use Rattle.clauses.specs.Clauses.{table_clauses};
-ghost use Rattle.dimacs.specs.Walks.{Wrote, Room};
+ghost use Rattle.dimacs.specs.Walks.{wrote, Room};
 
-use crate::cursors::{Cursor, Shape};
-use crate::pairs::put_pairs;
-use crate::rows::put_rows;
-use crate::triples::put_triples;
+use crate::shapes::Shape;
+use crate::writers::Writer;
 
-pub(crate) fn put_table(shape: Shape, rows: &[u32], from: Cursor, buf: &mut [u8]) -> Cursor
-    requires { Room from (table_clauses shape.terms shape.sets (map row_of rows.now)) }
-    ensures { Wrote from (table_clauses shape.terms shape.sets (map row_of rows.now)) buf.old result buf.new }
-{
-    let first = put_triples(shape, from, buf);
-    let second = put_pairs(shape, first, buf);
-    put_rows(shape, rows, second, buf)
+impl Writer<'_> {
+    // The clauses of all three parts.
+    pub(crate) fn put_table(&mut self, shape: Shape, rows: &[u32])
+        requires { Room self.old (table_clauses shape.terms shape.sets (map row_of rows.now)) }
+        ensures { self.new ≡ wrote self.old (table_clauses shape.terms shape.sets (map row_of rows.now)) }
+    {
+        self.put_triples(shape);
+        self.put_pairs(shape);
+        self.put_rows(shape, rows);
+    }
 }

@@ -9,7 +9,8 @@ use lib.Dec.{eqb, leb}
 use lib.ListN.{length}
 use Rattle.field.specs.declared.tags.File.{File}
 use Rattle.field.specs.declared.tags.BodyLength.{BodyLength}
-use Rattle.field.specs.declared.tags.BodyLength.TheVariants.{Unknown, Fixed, Depends}
+use Rattle.field.specs.declared.tags.BodyLength.TheVariants.{Fixed, Depends}
+use Rattle.std.proofs.Common.{Option, Some, None}
 use Rattle.field.specs.Tags.{length_of, is_allowed}
 use Rattle.field.specs.Heads.{head_length, field_bytes}
 use Rattle.outcome.specs.Writes.{over}
@@ -39,10 +40,10 @@ length_bounded file tag size = go (length_of file tag)
     bounded n true e = omega (arith, leb-true n longest_body e)
     bounded n false e = omega arith
 
-    go : (b : BodyLength) → sized_length b size ≤ head_length + longest_body
-    go Unknown = omega arith
-    go (Fixed n) = bounded n (leb n longest_body) refl
-    go Depends = bounded size (leb size longest_body) refl
+    go : (b : Option BodyLength) → sized_length b size ≤ head_length + longest_body
+    go None = omega arith
+    go (Some (Fixed n)) = bounded n (leb n longest_body) refl
+    go (Some Depends) = bounded size (leb size longest_body) refl
 
 -- a field has as many bytes as the table says
 pub length_written : (file : File) (tag size : ℕ) (body : List ℕ) → Sized file tag size (length body) → length body ≤ longest_body → field_length file tag size ≡ length (field_bytes tag body)
@@ -52,7 +53,7 @@ length_written file tag size body s h = go (length_of file tag) s.allowed ∙ om
     whole : (n : ℕ) → eqb (length body) n ≡ true → with_head n ≡ 3 + length body
     whole n e = rw (← eqb-true (length body) n e, le-leb _ _ h)
 
-    go : (b : BodyLength) → is_allowed b size (length body) ≡ true → sized_length b size ≡ 3 + length body
-    go Unknown e = never cc
-    go (Fixed n) e = whole n e
-    go Depends e = whole size e
+    go : (b : Option BodyLength) → is_allowed b size (length body) ≡ true → sized_length b size ≡ 3 + length body
+    go None e = never cc
+    go (Some (Fixed n)) e = whole n e
+    go (Some Depends) e = whole size e

@@ -1,7 +1,5 @@
 -- A field as bytes: a tag, a length in two bytes with the high byte first, and the body.
-use Rattle.std.specs.Prelude.{ℕ, ◌+◌, ◌*◌, ◌/◌, ◌%◌, List, [], ◌∷◌, length}
-use Rattle.field.specs.declared.heads.Head.{Head}
-use Rattle.field.specs.declared.heads.Head.TheVariants.{Short, Whole}
+use Rattle.std.specs.Prelude.{ℕ, ◌+◌, ◌*◌, ◌/◌, ◌%◌, List, [], ◌∷◌, length, Option, Some, None}
 
 -- a tag and a length in two bytes
 abbrev pub head_length : ℕ
@@ -15,9 +13,9 @@ field_bytes tag body = tag ∷ length body / 256 ∷ length body % 256 ∷ body
 abbrev pub end_bytes : List ℕ
 end_bytes = field_bytes 0x7f []
 
--- the head with which a field begins: its tag and length, or that fewer than three bytes are there
-unfoldable pub head_of : List ℕ → Head
-head_of [] = Short
-head_of (tag ∷ []) = Short
-head_of (tag ∷ high ∷ []) = Short
-head_of (tag ∷ high ∷ low ∷ rest) = Whole tag (high * 256 + low)
+-- the head with which a field begins: its tag and length; none, where fewer than three bytes are there
+unfoldable pub head_of : List ℕ → Option (ℕ × ℕ)
+head_of [] = None
+head_of (tag ∷ []) = None
+head_of (tag ∷ high ∷ []) = None
+head_of (tag ∷ high ∷ low ∷ rest) = Some (tag, high * 256 + low)

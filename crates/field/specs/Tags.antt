@@ -1,11 +1,11 @@
 -- The one table of tags and body lengths of document 01, and what each kind of file knows of it.
-use Rattle.std.specs.Prelude.{ℕ, Bool, true, false, cond, List, [], ◌∷◌, eqb}
+use Rattle.std.specs.Prelude.{ℕ, Bool, true, false, cond, List, [], ◌∷◌, eqb, Option, Some, None}
 use Rattle.field.specs.declared.tags.File.{File}
 use Rattle.field.specs.declared.tags.File.TheVariants.{Question, Answer, Report}
 use Rattle.field.specs.declared.tags.Home.{Home}
 use Rattle.field.specs.declared.tags.Home.TheVariants.{In, Every}
 use Rattle.field.specs.declared.tags.BodyLength.{BodyLength}
-use Rattle.field.specs.declared.tags.BodyLength.TheVariants.{Unknown, Fixed, Depends}
+use Rattle.field.specs.declared.tags.BodyLength.TheVariants.{Fixed, Depends}
 use Rattle.field.specs.declared.tags.Entry.{Entry}
 
 -- a tag, its body length, and the files in which it stands
@@ -46,26 +46,25 @@ knows file (In own) = eqb (file_number file) (file_number own)
 knows file Every = true
 
 -- what a file knows of an entry's tag
-abbrev pub known_of : File → Entry → BodyLength
-known_of file e = cond (knows file e.2) e.1 Unknown
+abbrev pub known_of : File → Entry → Option BodyLength
+known_of file e = cond (knows file e.2) (Some e.1) None
 
 -- what a file knows of a tag, by the entries of a table
-unfoldable pub length_in : File → List Entry → ℕ → BodyLength
-length_in file [] tag = Unknown
+unfoldable pub length_in : File → List Entry → ℕ → Option BodyLength
+length_in file [] tag = None
 length_in file (e ∷ es) tag = cond (eqb e.0 tag) (known_of file e) (length_in file es tag)
 
 -- what a file knows of a tag
-abbrev pub length_of : File → ℕ → BodyLength
+abbrev pub length_of : File → ℕ → Option BodyLength
 length_of file = length_in file field_table
 
 -- does the file know the tag
-abbrev pub is_known : BodyLength → Bool
-is_known Unknown = false
-is_known (Fixed n) = true
-is_known Depends = true
+abbrev pub is_known : Option BodyLength → Bool
+is_known None = false
+is_known (Some length) = true
 
 -- may a body have n bytes, where a length that depends is `size`
-abbrev pub is_allowed : BodyLength → ℕ → ℕ → Bool
-is_allowed Unknown size n = false
-is_allowed (Fixed due) size n = eqb n due
-is_allowed Depends size n = eqb n size
+abbrev pub is_allowed : Option BodyLength → ℕ → ℕ → Bool
+is_allowed None size n = false
+is_allowed (Some (Fixed due)) size n = eqb n due
+is_allowed (Some Depends) size n = eqb n size

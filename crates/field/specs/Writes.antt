@@ -1,9 +1,9 @@
 -- The length of a field, and writing it at the front of a lent part of a buffer.
-use Rattle.std.specs.Prelude.{ℕ, ◌+◌, Bool, ◌&&◌, cond, List, leb, length}
+use Rattle.std.specs.Prelude.{ℕ, ◌+◌, Bool, ◌&&◌, cond, List, leb, length, Option, Some, None}
 use Rattle.outcome.specs.Writes.{over}
 use Rattle.field.specs.declared.tags.File.{File}
 use Rattle.field.specs.declared.tags.BodyLength.{BodyLength}
-use Rattle.field.specs.declared.tags.BodyLength.TheVariants.{Unknown, Fixed, Depends}
+use Rattle.field.specs.declared.tags.BodyLength.TheVariants.{Fixed, Depends}
 use Rattle.field.specs.Tags.{length_of}
 use Rattle.field.specs.Heads.{head_length, field_bytes}
 
@@ -16,10 +16,10 @@ abbrev pub with_head : ℕ → ℕ
 with_head n = cond (leb n longest_body) (head_length + n) 0
 
 -- how many bytes a field has by the table, where a length that depends is `size`
-abbrev pub sized_length : BodyLength → ℕ → ℕ
-sized_length Unknown size = 0
-sized_length (Fixed n) size = with_head n
-sized_length Depends size = with_head size
+abbrev pub sized_length : Option BodyLength → ℕ → ℕ
+sized_length None size = 0
+sized_length (Some (Fixed n)) size = with_head n
+sized_length (Some Depends) size = with_head size
 
 -- how many bytes a file's field with this tag has; none, where the file has no such field
 unfoldable pub field_length : File → ℕ → ℕ → ℕ

@@ -2,7 +2,7 @@
 ghost use Rattle.std.specs.Prelude.{◌≡◌, drop};
 ghost use Rattle.field.specs.Frames.{is_in_place, framed, frame_of};
 
-use crate::heads::{Head, head_at};
+use crate::heads::head_at;
 use crate::tags::{File, length_of};
 use outcome::Refusal;
 
@@ -13,12 +13,11 @@ pub enum Due {
     AllBut(u8),
 }
 
+// The tag of a field that is sound, and the length of its body.
 #[derive(Clone, Copy)]
-pub enum Frame {
-    // The tag, and the length of the body.
-    Sound(u8, usize),
-    // The number of the refusal.
-    Refused(u8),
+pub struct Frame {
+    pub tag: u8,
+    pub length: usize,
 }
 
 impl Frame {
@@ -39,36 +38,45 @@ impl Due {
 }
 
 // After the head, in document 01's order: 2, 3, 4, then 1 if fewer bytes are left than the body has.
-fn check_head(file: File, due: Due, size: usize, tag: u8, length: usize, left: usize) -> Frame
-    ensures { result ≡ framed file due size tag length left }
+fn check_head(
+    file: File,
+    due: Due,
+    size: usize,
+    at: usize,
+    tag: u8,
+    length: usize,
+    left: usize,
+) -> Result<Frame, Refusal>
+    ensures { result ≡ framed file due size at tag length left }
 {
-    let listed = length_of(file, tag);
-    let known = listed.is_known();
-    let allowed = listed.is_allowed(size, length);
-    let in_place = due.allows(tag);
-    if !known {
-        return Frame::Refused(Refusal::TAG_UNKNOWN);
+    let Some(listed) = length_of(file, tag) else {
+        return Err(Refusal::new(Refusal::TAG_UNKNOWN, at));
+    };
+    if !due.allows(tag) {
+        return Err(Refusal::new(Refusal::TAG_OUT_OF_PLACE, at));
     }
-    if !in_place {
-        return Frame::Refused(Refusal::TAG_OUT_OF_PLACE);
-    }
-    if !allowed {
-        return Frame::Refused(Refusal::WRONG_LENGTH);
+    if !listed.is_allowed(size, length) {
+        return Err(Refusal::new(Refusal::WRONG_LENGTH, at));
     }
     if left < length {
-        return Frame::Refused(Refusal::DATA_ENDS);
+        return Err(Refusal::new(Refusal::DATA_ENDS, at));
     }
-    Frame::Sound(tag, length)
+    Ok(Frame { tag, length })
 }
 
 // The frame of the field that begins at a place; `size` is its length where that depends on the question and the classes.
-pub fn frame_at(bytes: &[u8], at: usize, file: File, due: Due, size: usize) -> Frame
-    ensures { result ≡ frame_of file due size (drop at bytes.now) }
+pub fn frame_at(
+    bytes: &[u8],
+    at: usize,
+    file: File,
+    due: Due,
+    size: usize,
+) -> Result<Frame, Refusal>
+    ensures { result ≡ frame_of file due size at (drop at bytes.now) }
 {
-    match head_at(bytes, at) {
-        Head::Short => Frame::Refused(Refusal::DATA_ENDS),
-        Head::Whole(tag, length) => {
-            check_head(file, due, size, tag, length, bytes.len() - at - 3)
-        }
-    }
+    let Some((tag, length)) = head_at(bytes, at) else {
+        return Err(Refusal::new(Refusal::DATA_ENDS, at));
+    };
+    let left = bytes.len() - at - Frame::HEAD;
+    check_head(file, due, size, at, tag, length, left)
 }

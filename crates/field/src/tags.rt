@@ -1,9 +1,9 @@
 // The one table of tags: each with its body length and the files in which it stands.
-ghost use Rattle.std.specs.Prelude.{◌≡◌, ◌<◌, length};
-ghost use Rattle.field.specs.Tags.{file_number, knows, known_of, length_of, is_known, is_allowed};
+ghost use Rattle.std.specs.Prelude.{◌≡◌, Some};
+ghost use Rattle.field.specs.Tags.{knows, known_of, length_of, is_allowed};
 
 // The kinds of files.
-#[derive(Clone, Copy)]
+#[derive(Clone, Copy, PartialEq, Eq)]
 pub enum File {
     Question,
     Answer,
@@ -18,11 +18,9 @@ pub enum Home {
     Every,
 }
 
-// What a file knows of a tag.
+// How long the body of a tag that a file knows is.
 #[derive(Clone, Copy)]
 pub enum BodyLength {
-    // It does not know the tag.
-    Unknown,
     Fixed(usize),
     // The length depends on the question and the classes.
     Depends,
@@ -52,75 +50,37 @@ const FIELDS: [Entry; 17] = [
     Entry(0x7f, BodyLength::Fixed(0), Home::Every),
 ];
 
-impl File {
-    // The kinds of files are told apart by a number.
-    fn number(self) -> u8
-        ensures { result ≡ file_number self }
-    {
-        match self {
-            File::Question => 0,
-            File::Answer => 1,
-            File::Report => 2,
-        }
-    }
-}
-
 // Does a kind of file know the tags that stand there.
 fn is_home(file: File, home: Home) -> bool
     ensures { result ≡ knows file home }
 {
     match home {
-        Home::In(own) => file.number() == own.number(),
+        Home::In(own) => file == own,
         Home::Every => true,
     }
 }
 
 // What a file knows of an entry's tag.
-fn known_of(file: File, e: Entry) -> BodyLength
+fn known_of(file: File, e: Entry) -> Option<BodyLength>
     ensures { result ≡ known_of file e }
 {
-    let home = e.2;
-    if is_home(file, home) {
-        let length = e.1;
-        return length;
-    }
-    BodyLength::Unknown
+    is_home(file, e.2).then_some(e.1)
 }
 
-// What a file knows of a tag.
-pub fn length_of(file: File, tag: u8) -> BodyLength
+// What a file knows of a tag: nothing, if the tag is not one of its own.
+pub fn length_of(file: File, tag: u8) -> Option<BodyLength>
     ensures { result ≡ length_of file tag }
 {
-    let table = FIELDS;
-    let mut i: usize = 0;
-    while i < FIELDS.len() {
-        let e = table[i];
-        if e.0 == tag {
-            return known_of(file, e);
-        }
-        i += 1;
-    }
-    BodyLength::Unknown
+    let e = FIELDS.iter().find(|e| e.0 == tag)?;
+    known_of(file, *e)
 }
 
 impl BodyLength {
-    // Does the file know the tag.
-    pub(crate) fn is_known(self) -> bool
-        ensures { result ≡ is_known self }
-    {
-        match self {
-            BodyLength::Unknown => false,
-            BodyLength::Fixed(_) => true,
-            BodyLength::Depends => true,
-        }
-    }
-
     // May a body be this long, where a length that depends is `size`.
     pub(crate) fn is_allowed(self, size: usize, length: usize) -> bool
-        ensures { result ≡ is_allowed self size length }
+        ensures { result ≡ is_allowed (Some self) size length }
     {
         match self {
-            BodyLength::Unknown => false,
             BodyLength::Fixed(due) => length == due,
             BodyLength::Depends => length == size,
         }

@@ -22,9 +22,9 @@ pub fn field_length(file: File, tag: u8, size: usize) -> usize
     ensures { result ≡ field_length file tag size }
 {
     match length_of(file, tag) {
-        BodyLength::Unknown => 0,
-        BodyLength::Fixed(n) => with_head(n),
-        BodyLength::Depends => with_head(size),
+        None => 0,
+        Some(BodyLength::Fixed(n)) => with_head(n),
+        Some(BodyLength::Depends) => with_head(size),
     }
 }
 
@@ -40,19 +40,7 @@ fn put_head(tag: u8, n: usize, buf: &mut [u8])
     buf[2] = low;
 }
 
-// Some bytes at the front of the lent part.
-fn put_bytes(bytes: &[u8], buf: &mut [u8])
-    requires { length bytes.now ≤ length buf.old }
-    ensures { buf.new ≡ over bytes.now buf.old }
-{
-    let mut i: usize = 0;
-    while i < bytes.len() {
-        buf[i] = bytes[i];
-        i += 1;
-    }
-}
-
-// A field at the front of the lent part, and how many bytes it has; or nothing, and 0, where it does not fit.
+// A field at the front of the lent part, and how many bytes were written; where it does not fit that is 0, a count like any other.
 pub fn put_field(tag: u8, body: &[u8], buf: &mut [u8]) -> usize
     ensures { (result ≡ field_count body.now (length buf.old)) × (buf.new ≡ field_over tag body.now buf.old) }
 {
@@ -64,6 +52,6 @@ pub fn put_field(tag: u8, body: &[u8], buf: &mut [u8]) -> usize
         return 0;
     }
     put_head(tag, n, buf);
-    put_bytes(body, &mut buf[3..]);
+    buf[3..3 + n].copy_from_slice(body);
     3 + n
 }

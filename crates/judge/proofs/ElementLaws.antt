@@ -1,14 +1,13 @@
 -- What is asked of one domain element doesn't depend on how many there are.
-use Prim.Native.Nat.{ℕ}
-use mathlib.Core.Path.{◌≡◌, refl}
-use mathlib.Core.List.{List}
+use Rattle.std.proofs.Common.{ℕ, ◌≡◌, refl}
 use Rattle.statement.specs.declared.statements.Statement.{Statement}
 use Rattle.statement.specs.declared.statements.Statement.TheVariants.{ElementsEqual, ElementsDiffer, In, NotIn, SetsEqual, SetsDiffer, Empty, Single, Union, Intersection, Difference}
-use Rattle.judge.specs.Models.{assigned_by}
+use Rattle.judge.specs.declared.models.Model.{Model}
+use Rattle.judge.specs.Models.{assigned}
 use Rattle.judge.specs.Elements.{at_element}
 
-module _ (n k : ℕ) (elements masks : List ℕ) where
-  pub any_size : (s : Statement) (d : ℕ) → at_element (assigned_by n elements masks) s d ≡ at_element (assigned_by k elements masks) s d
+module _ (m : Model) (n k : ℕ) where
+  pub any_size : (s : Statement) (d : ℕ) → at_element (assigned (record m { size = n })) s d ≡ at_element (assigned (record m { size = k })) s d
   any_size (ElementsEqual a b) d = refl
   any_size (ElementsDiffer a b) d = refl
   any_size (In a x) d = refl

@@ -1,4 +1,5 @@
 -- A solution of an accepted question, as a model for the judge: it agrees with the solution on every name declared, so the judge says yes to it.
+use Rattle.std.proofs.Common.{Ok, None}
 use Prim.Native.Nat.{ℕ, ◌^◌, ◌≤◌}
 use mathlib.Core.Path.{◌≡◌, refl, sym, ap, fun_ext}
 use mathlib.Core.Bool.{true}
@@ -20,7 +21,6 @@ use Rattle.theory.specs.Solutions.{Solution, mask_of}
 use Rattle.theory.specs.Answers.{Solves, as_model}
 use Rattle.theory.proofs.ArrangementLaws.{classes_few}
 use Rattle.theory.proofs.DemandThree.{model_assignment, model_holds}
-use Rattle.judge.specs.declared.judging.Judgement.TheVariants.{Yes}
 use Rattle.judge.specs.Models.{assigned, elements_inside, masks_inside, is_model}
 use Rattle.judge.specs.Judgements.{judged}
 use Rattle.judge.proofs.Verdicts.{yes_means}
@@ -67,5 +67,5 @@ module _ (q : Question) (accepted : IsAccepted q) (sol : Solution) (s : Solves q
       (λ x lt. fun_ext (λ k. ap (λ m. bit m x.0) (sym (mask_shown k))))
       (statements q) accepted.all_declared (model_holds q accepted sol s)
 
-  pub judge_yes : judged q (model_shown sol) ≡ Yes
+  pub judge_yes : judged q (model_shown sol) ≡ Ok None
   judge_yes = (yes_means q (model_shown sol)).1 (record { question_accepted = accepted; model = is_model_lem; all_hold = all_hold })

@@ -5,13 +5,9 @@ use Rattle.question.specs.Masks.{bit}
 use Rattle.statement.specs.Meaning.{Assignment, everywhere}
 use Rattle.judge.specs.declared.models.Model.{Model}
 
--- the assignment of n, elements and masks: a domain element is in the set x if its mask has bit x
-abbrev pub assigned_by : ℕ → List ℕ → List ℕ → Assignment
-assigned_by n elements masks = record { size = n; element = λ a. get_or elements a.0 0; part = λ x d. bit (get_or masks d 0) x.0 }
-
--- the assignment that a model is
+-- the assignment that a model is: a domain element is in the set x if its mask has bit x
 abbrev pub assigned : Model → Assignment
-assigned m = assigned_by m.size m.elements m.masks
+assigned m = record { size = m.size; element = λ a. get_or m.elements a.0 0; part = λ x d. bit (get_or m.masks d 0) x.0 }
 
 -- the element of each of E names is below n
 unfoldable pub elements_inside : ℕ → ℕ → List ℕ → Bool

@@ -6,5 +6,5 @@ mod holding;
 mod judging;
 mod models;
 
-pub use judging::{Judgement, judge, judge_model};
+pub use judging::{ALL_HOLD, judge, judge_lent, judge_model};
 pub use models::Model;

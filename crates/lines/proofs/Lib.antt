@@ -1,7 +1,7 @@
 -- Laws of the steps and of the walk, by which the functions are proved; then that the reader accepts exactly the texts of document 02's sentence, of which the lines that truth values write are one.
-pub mod TableLaws
-pub mod SameBytesLaws
+pub mod NumberedLaws
 pub mod StepLaws
+pub mod CutLaws
 pub mod WalkLaws
 pub mod OneResultLaws
 pub mod Folds

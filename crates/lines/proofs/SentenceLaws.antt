@@ -5,7 +5,8 @@ use mathlib.Core.Bool.{Bool, true, false, cond}
 use mathlib.Core.List.{List, [], ◌∷◌, ◌++◌, map}
 use mathlib.Core.Logic.{◌⊎◌, inl, inr}
 use native.Mathlib.Omega.{arith}
-use Rattle.outcome.specs.declared.checks.Check.TheVariants.{Accepted}
+use Rattle.std.specs.Prelude.{bytes_eq, Ok}
+use Rattle.outcome.specs.Checks.{outcome_of}
 use Rattle.outcome.proofs.Never.{never}
 use Rattle.text.specs.declared.literals.Literal.{Literal}
 use Rattle.text.specs.Literals.{is, Sayable}
@@ -17,8 +18,8 @@ use Rattle.lines.specs.declared.readings.Stage.{Stage}
 use Rattle.lines.specs.declared.readings.Stage.TheVariants.{Values, Valued, Refuted, Fault}
 use Rattle.lines.specs.declared.readings.Reading.{Reading}
 use Rattle.lines.specs.Values.{most_variables, no_values, truth_of, all_said}
-use Rattle.lines.specs.Steps.{satisfiable, unsatisfiable, same_bytes, start, at_stage, said_step}
-use Rattle.lines.specs.Reads.{read, lines_from, lines_read}
+use Rattle.lines.specs.Steps.{satisfiable, unsatisfiable, start, at_stage, said_step}
+use Rattle.lines.specs.Reads.{reading_of, lines_from, lines_read}
 use Rattle.lines.specs.Sentences.{uncommented, values_line, together, truth_in, HasOne, SaysModel, SaysUnsatisfiable}
 use Rattle.lines.proofs.Folds.{steps_by, steps_faulty}
 use Rattle.lines.proofs.TextLaws.{text_pieces, pieces_text}
@@ -58,9 +59,9 @@ module _ (most : ℕ) where
   first_valued : (us : List (List ℕ)) → (said_steps most start us).stage ≡ Valued → (rest : List (List ℕ)) × (us ≡ satisfiable ∷ rest) × ((said_steps most (with_values no_values) rest).stage ≡ Valued)
   unfolding steps_by
   first_valued [] e = never cc
-  first_valued (u ∷ us) e = go (same_bytes u satisfiable) (same_bytes u unsatisfiable) refl e
+  first_valued (u ∷ us) e = go (bytes_eq u satisfiable) (bytes_eq u unsatisfiable) refl e
     where
-      go : (s t : Bool) → same_bytes u satisfiable ≡ s → (said_steps most (cond s (at_stage Values start) (cond t (at_stage Refuted start) (at_stage Fault start))) us).stage ≡ Valued →
+      go : (s t : Bool) → bytes_eq u satisfiable ≡ s → (said_steps most (cond s (at_stage Values start) (cond t (at_stage Refuted start) (at_stage Fault start))) us).stage ≡ Valued →
           (rest : List (List ℕ)) × (u ∷ us ≡ satisfiable ∷ rest) × ((said_steps most (with_values no_values) rest).stage ≡ Valued)
       go true t p e = (us, ap (λ x. x ∷ us) (same_equal u satisfiable p), e)
       go false true p e = let no_model_lem = (refuted_alone Valued us e (λ f. never cc)).1 in never cc
@@ -69,20 +70,20 @@ module _ (most : ℕ) where
   first_refuted : (us : List (List ℕ)) → (said_steps most start us).stage ≡ Refuted → us ≡ unsatisfiable ∷ []
   unfolding steps_by
   first_refuted [] e = never cc
-  first_refuted (u ∷ us) e = go (same_bytes u satisfiable) (same_bytes u unsatisfiable) refl e
+  first_refuted (u ∷ us) e = go (bytes_eq u satisfiable) (bytes_eq u unsatisfiable) refl e
     where
-      go : (s t : Bool) → same_bytes u unsatisfiable ≡ t → (said_steps most (cond s (at_stage Values start) (cond t (at_stage Refuted start) (at_stage Fault start))) us).stage ≡ Refuted → u ∷ us ≡ unsatisfiable ∷ []
+      go : (s t : Bool) → bytes_eq u unsatisfiable ≡ t → (said_steps most (cond s (at_stage Values start) (cond t (at_stage Refuted start) (at_stage Fault start))) us).stage ≡ Refuted → u ∷ us ≡ unsatisfiable ∷ []
       go true t p e = absurd (rw e at (values_later us (λ f. never cc)))
       go false true p e = ap₂ (λ x xs. x ∷ xs) (same_equal u unsatisfiable p) (refuted_alone Refuted us e (λ f. never cc)).0
       go false false p e = let fault = faulty start us in never cc
 
   -- the two lines that may stand first
   unsatisfiable_first : said_steps most start (unsatisfiable ∷ []) ≡ at_stage Refuted start
-  unfolding steps_by same_bytes
+  unfolding steps_by
   unsatisfiable_first = refl
 
   satisfiable_first : (us : List (List ℕ)) → said_steps most start (satisfiable ∷ us) ≡ said_steps most (with_values no_values) us
-  unfolding steps_by same_bytes
+  unfolding steps_by
   satisfiable_first us = refl
 
   -- declared variables and the 0 can be read
@@ -119,26 +120,26 @@ module _ (most : ℕ) where
 
   module _ (text : List ℕ) where
     -- what was accepted: some lines that lead to an end
-    read_lines : (lines_read most text).outcome ≡ Accepted → Walked most start (pieces line_end text) (lines_read most text)
+    read_lines : outcome_of (lines_read most text) ≡ Ok tt → Walked most start (pieces line_end text) (lines_read most text)
     unfolding lines_read
     read_lines e = walked most 0 start (pieces line_end text) (any_piece line_end text) e
 
-    reading_is : (e : (lines_read most text).outcome ≡ Accepted) → (lines_read most text).reading ≡ said_steps most start (uncommented (read_lines e).lines)
-    reading_is e = let w = read_lines e in ap (λ x. x.reading) w.comes ∙ uncommented_steps most start w.lines
+    reading_is : (e : outcome_of (lines_read most text) ≡ Ok tt) → reading_of (lines_read most text) ≡ said_steps most start (uncommented (read_lines e).lines)
+    reading_is e = let w = read_lines e in ap (λ x. reading_of x) w.comes ∙ uncommented_steps most start w.lines
 
     -- lines that lead to an end are accepted
-    lines_read_lem : (ls : List (List ℕ)) (r : Reading) → pieces line_end text ≡ ls ++ ([] ∷ []) → said_steps most start (uncommented ls) ≡ r → Ends r.stage → lines_read most text ≡ read r
+    lines_read_lem : (ls : List (List ℕ)) (r : Reading) → pieces line_end text ≡ ls ++ ([] ∷ []) → said_steps most start (uncommented ls) ≡ r → Ends r.stage → lines_read most text ≡ Ok r
     unfolding lines_read
     lines_read_lem ls r cut leads ends =
         let same : line_steps most start ls ≡ r = uncommented_steps most start ls ∙ leads in
-        ap (lines_from most 0 start) cut ∙ walks most 0 start ls (rw same ends) ∙ ap read same
+        ap (lines_from most 0 start) cut ∙ walks most 0 start ls (rw same ends) ∙ ap Ok same
 
     -- what is accepted says a model or unsatisfiable
-    pub accepted_says : (lines_read most text).outcome ≡ Accepted → ((lines_read most text).reading.stage ≡ Valued) ⊎ ((lines_read most text).reading.stage ≡ Refuted)
-    accepted_says e = let w = read_lines e in rw (ap (λ x. x.reading) w.comes) w.ends
+    pub accepted_says : outcome_of (lines_read most text) ≡ Ok tt → ((reading_of (lines_read most text)).stage ≡ Valued) ⊎ ((reading_of (lines_read most text)).stage ≡ Refuted)
+    accepted_says e = let w = read_lines e in rw (ap (λ x. reading_of x) w.comes) w.ends
 
     -- unsatisfiable, both ways
-    pub reads_unsatisfiable : (lines_read most text).outcome ≡ Accepted → (lines_read most text).reading.stage ≡ Refuted → SaysUnsatisfiable text
+    pub reads_unsatisfiable : outcome_of (lines_read most text) ≡ Ok tt → (reading_of (lines_read most text)).stage ≡ Refuted → SaysUnsatisfiable text
     reads_unsatisfiable e s =
         let w = read_lines e in
         let t = pieces_text text w.lines w.cut in
@@ -149,16 +150,16 @@ module _ (most : ℕ) where
           form = first_refuted (uncommented w.lines) (ap (λ x. x.stage) (sym (reading_is e)) ∙ s);
         }
 
-    pub unsatisfiable_reads : SaysUnsatisfiable text → ((lines_read most text).outcome ≡ Accepted) × ((lines_read most text).reading.stage ≡ Refuted)
+    pub unsatisfiable_reads : SaysUnsatisfiable text → (outcome_of (lines_read most text) ≡ Ok tt) × ((reading_of (lines_read most text)).stage ≡ Refuted)
     unsatisfiable_reads u =
         let leads : said_steps most start (uncommented u.lines) ≡ at_stage Refuted start = ap (said_steps most start) u.form ∙ unsatisfiable_first in
-        let all : lines_read most text ≡ read (at_stage Refuted start) = lines_read_lem u.lines (at_stage Refuted start) (ap (pieces line_end) u.whole ∙ text_pieces u.lines u.ended) leads (inr refl) in
-        (ap (λ x. x.outcome) all, ap (λ x. x.reading.stage) all)
+        let all : lines_read most text ≡ Ok (at_stage Refuted start) = lines_read_lem u.lines (at_stage Refuted start) (ap (pieces line_end) u.whole ∙ text_pieces u.lines u.ended) leads (inr refl) in
+        (ap (λ x. outcome_of x) all, ap (λ x. (reading_of x).stage) all)
 
     module _ (few : most ≤ most_variables) where
       -- a model, both ways, with the truth values that it says
-      pub reads_model : (lines_read most text).outcome ≡ Accepted → (lines_read most text).reading.stage ≡ Valued →
-          (said : List Literal) × SaysModel most text said × ((v : ℕ) → truth_of (lines_read most text).reading.values v ≡ truth_in said v)
+      pub reads_model : outcome_of (lines_read most text) ≡ Ok tt → (reading_of (lines_read most text)).stage ≡ Valued →
+          (said : List Literal) × SaysModel most text said × ((v : ℕ) → truth_of (reading_of (lines_read most text)).values v ≡ truth_in said v)
       reads_model e s =
           let w = read_lines e in
           let t = pieces_text text w.lines w.cut in
@@ -179,12 +180,12 @@ module _ (most : ℕ) where
           )
 
       pub model_reads : (said : List Literal) → SaysModel most text said →
-          ((lines_read most text).outcome ≡ Accepted) × ((lines_read most text).reading.stage ≡ Valued) × ((v : ℕ) → truth_of (lines_read most text).reading.values v ≡ truth_in said v)
+          (outcome_of (lines_read most text) ≡ Ok tt) × ((reading_of (lines_read most text)).stage ≡ Valued) × ((v : ℕ) → truth_of (reading_of (lines_read most text)).values v ≡ truth_in said v)
       model_reads said m =
           let can : Every (Sayable most) (together m.numbers) = rw m.all (every_append (Sayable most) said (is 0 ∷ []) (declared_sayable said m.each_once.declared) (zero_sayable, tt)) in
           let o = said_once most few said m.each_once in
           let r : Reading = record { stage = Valued; values = table_after no_values said } in
           let lines_model : ModelLines (uncommented m.lines) said = record { numbers = m.numbers; form = m.form; has_one = m.has_one; all = m.all } in
           let leads : said_steps most start (uncommented m.lines) ≡ r = model_leads (uncommented m.lines) said lines_model (every_apart (Sayable most) m.numbers can) ∙ said_literals most no_values said o.0 o.1 in
-          let all : lines_read most text ≡ read r = lines_read_lem m.lines r (ap (pieces line_end) m.whole ∙ text_pieces m.lines m.ended) leads (inl refl) in
-          (ap (λ x. x.outcome) all, ap (λ x. x.reading.stage) all, λ v. ap (λ x. truth_of x.reading.values v) all ∙ truth_said_lem most few said o.0 v)
+          let all : lines_read most text ≡ Ok r = lines_read_lem m.lines r (ap (pieces line_end) m.whole ∙ text_pieces m.lines m.ended) leads (inl refl) in
+          (ap (λ x. outcome_of x) all, ap (λ x. (reading_of x).stage) all, λ v. ap (λ x. truth_of (reading_of x).values v) all ∙ truth_said_lem most few said o.0 v)

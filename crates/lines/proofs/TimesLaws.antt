@@ -8,18 +8,18 @@ use borrow.Author.Tests.{eq-eqb, eqb-true, eqb-false, ltb-true, ltb-false, leb-t
 use lib.Dec.{eqb, leb, ltb}
 use lib.ListN.{length, get_or, replicate, length-set, length-replicate, get_or-replicate, get_or-eq_default}
 use lib.Seq.{get_or-set_same, get_or-set_other}
+use Rattle.std.specs.Prelude.{Option, Some, None}
 use Rattle.outcome.proofs.Never.{never}
 use Rattle.text.specs.declared.literals.Literal.{Literal}
 use Rattle.statement.proofs.EverywhereLaws.{everywhere_at, everywhere_of}
 use Rattle.statement.proofs.TestLaws.{T_true, true_T}
 use Rattle.theory.specs.Lists.{Every}
-use Rattle.lines.specs.declared.readings.Value.{Value}
-use Rattle.lines.specs.Values.{most_variables, unsaid, told, no_values, value_of, is_said, truth_of, all_said, with_value}
+use Rattle.lines.specs.Values.{most_variables, unsaid, told, no_values, value_of, is_said, is_true, truth_of, all_said, with_value}
 use Rattle.lines.specs.Sentences.{times_said, truth_in, EachOnce}
 use Rattle.lines.proofs.SaidLaws.{table_after, Fresh}
 
 -- the value of a variable after one literal more
-module _ (t : List Value) (l : Literal) where
+module _ (t : List (Option Bool)) (l : Literal) where
   value_same : l.variable < length t → value_of (with_value t l) l.variable ≡ told (not l.denied)
   value_same h = get_or-set_same t l.variable (told (not l.denied)) unsaid h
 
@@ -30,11 +30,11 @@ module _ (t : List Value) (l : Literal) where
   with_long = length-set t l.variable (told (not l.denied))
 
 -- 1 if the variable has a value
-abbrev pub counted : List Value → ℕ → ℕ
+abbrev pub counted : List (Option Bool) → ℕ → ℕ
 counted t v = cond (is_said (value_of t v)) 1 0
 
 -- a literal that is new moves one from what is to come to what the table holds
-count_step : (t : List Value) (l : Literal) (ls : List Literal) (v : ℕ) → l.variable < length t → is_said (value_of t l.variable) ≡ false → counted t v + times_said v (l ∷ ls) ≡ counted (with_value t l) v + times_said v ls
+count_step : (t : List (Option Bool)) (l : Literal) (ls : List Literal) (v : ℕ) → l.variable < length t → is_said (value_of t l.variable) ≡ false → counted t v + times_said v (l ∷ ls) ≡ counted (with_value t l) v + times_said v ls
 unfolding times_said
 count_step t l ls v h new = go (eqb l.variable v) refl
   where
@@ -49,22 +49,11 @@ count_step t l ls v h new = go (eqb l.variable v) refl
         omega arith
 
 -- what is not said is not true
-abbrev Clean : List Value → Type 0
-Clean t = (v : ℕ) → is_said (value_of t v) ≡ false → truth_of t v ≡ false
+unsaid_false : (x : Option Bool) → is_said x ≡ false → is_true x ≡ false
+unsaid_false None e = refl
+unsaid_false (Some b) e = never cc
 
-module _ (t : List Value) (l : Literal) where
-  clean_step : l.variable < length t → Clean t → Clean (with_value t l)
-  clean_step h clean v e = go (eqb l.variable v) refl
-    where
-      go : (s : Bool) → eqb l.variable v ≡ s → truth_of (with_value t l) v ≡ false
-      go true p =
-          let same = eqb-true l.variable v p in
-          let told_here : is_said (value_of (with_value t l) v) ≡ true = ap (λ k. is_said (value_of (with_value t l) k)) (sym same) ∙ ap is_said (value_same t l h) in
-          never cc
-      go false p =
-          let kept = value_other t l v (eqb-false l.variable v p) in
-          ap (λ x. x.truth) kept ∙ clean v (ap is_said (sym kept) ∙ e)
-
+module _ (t : List (Option Bool)) (l : Literal) where
   truth_step : (v : ℕ) (later : Bool) → l.variable < length t → truth_of t l.variable ≡ false → (truth_of (with_value t l) v || later) ≡ (truth_of t v || (eqb l.variable v && not l.denied || later))
   truth_step v later h new = go (eqb l.variable v) refl
     where
@@ -72,20 +61,20 @@ module _ (t : List Value) (l : Literal) where
       go true p =
           let same = eqb-true l.variable v p in
           let before : truth_of t v ≡ false = ap (λ k. truth_of t k) (sym same) ∙ new in
-          let after : truth_of (with_value t l) v ≡ not l.denied = ap (λ k. truth_of (with_value t l) k) (sym same) ∙ ap (λ x. x.truth) (value_same t l h) in
+          let after : truth_of (with_value t l) v ≡ not l.denied = ap (λ k. truth_of (with_value t l) k) (sym same) ∙ ap (λ x. is_true x) (value_same t l h) in
           ap (λ b. b || later) after ∙ ap (λ b. b || (not l.denied || later)) (sym before)
-      go false p = ap (λ x. x.truth || later) (value_other t l v (eqb-false l.variable v p))
+      go false p = ap (λ x. is_true x || later) (value_other t l v (eqb-false l.variable v p))
 
 abbrev Declared : ℕ → List Literal → Type 0
 Declared most said = Every (λ l. (1 ≤ l.variable) × (l.variable ≤ most)) said
 
 module _ (most : ℕ) where
-  fresh_declared : (t : List Value) (said : List Literal) → Fresh most t said → Declared most said
+  fresh_declared : (t : List (Option Bool)) (said : List Literal) → Fresh most t said → Declared most said
   fresh_declared t [] h = tt
   fresh_declared t (l ∷ ls) h = ((h.0, h.1), fresh_declared (with_value t l) ls h.3)
 
   -- what the table holds is what it held and what stood
-  count_after : (t : List Value) (said : List Literal) → most < length t → Fresh most t said → (v : ℕ) → counted t v + times_said v said ≡ counted (table_after t said) v
+  count_after : (t : List (Option Bool)) (said : List Literal) → most < length t → Fresh most t said → (v : ℕ) → counted t v + times_said v said ≡ counted (table_after t said) v
   unfolding table_after times_said
   count_after t [] h fresh v = omega arith
   count_after t (l ∷ ls) h fresh v =
@@ -93,7 +82,7 @@ module _ (most : ℕ) where
       ∙ count_after (with_value t l) ls (omega (arith, with_long t l)) fresh.3 v
 
   -- literals of which none stands twice are new in their turn
-  fresh_of : (t : List Value) (said : List Literal) → most < length t → Declared most said → ((v : ℕ) → counted t v + times_said v said ≤ 1) → Fresh most t said
+  fresh_of : (t : List (Option Bool)) (said : List Literal) → most < length t → Declared most said → ((v : ℕ) → counted t v + times_said v said ≤ 1) → Fresh most t said
   unfolding times_said
   fresh_of t [] h declared few = tt
   fresh_of t (l ∷ ls) h declared few =
@@ -110,12 +99,12 @@ module _ (most : ℕ) where
       new = go (is_said (value_of t l.variable)) refl
 
   -- the truth values that the literals say
-  truth_after : (t : List Value) (said : List Literal) → most < length t → Fresh most t said → Clean t → (v : ℕ) → truth_of (table_after t said) v ≡ (truth_of t v || truth_in said v)
+  truth_after : (t : List (Option Bool)) (said : List Literal) → most < length t → Fresh most t said → (v : ℕ) → truth_of (table_after t said) v ≡ (truth_of t v || truth_in said v)
   unfolding table_after truth_in
-  truth_after t [] h fresh clean v = sym (or-false (truth_of t v))
-  truth_after t (l ∷ ls) h fresh clean v =
-      truth_after (with_value t l) ls (omega (arith, with_long t l)) fresh.3 (clean_step t l (omega (arith, fresh.1)) clean) v
-      ∙ truth_step t l v (truth_in ls v) (omega (arith, fresh.1)) (clean l.variable fresh.2)
+  truth_after t [] h fresh v = sym (or-false (truth_of t v))
+  truth_after t (l ∷ ls) h fresh v =
+      truth_after (with_value t l) ls (omega (arith, with_long t l)) fresh.3 v
+      ∙ truth_step t l v (truth_in ls v) (omega (arith, fresh.1)) (unsaid_false (value_of t l.variable) fresh.2)
 
 -- the table of no line: nothing is said, and nothing is true
 none_said : (n v : ℕ) → get_or (replicate n unsaid) v unsaid ≡ unsaid
@@ -176,5 +165,5 @@ module _ (most : ℕ) (few : most ≤ most_variables) (said : List Literal) wher
 
   pub truth_said_lem : Fresh most no_values said → (v : ℕ) → truth_of (table_after no_values said) v ≡ truth_in said v
   truth_said_lem fresh v =
-      truth_after most no_values said start_long fresh (λ w h. ap (λ x. x.truth) (none_said (suc most_variables) w)) v
-      ∙ ap (λ x. x.truth || truth_in said v) (none_said (suc most_variables) v)
+      truth_after most no_values said start_long fresh v
+      ∙ ap (λ x. is_true x || truth_in said v) (none_said (suc most_variables) v)

@@ -1,15 +1,14 @@
 -- The `v` lines both ways: lines of literals lead where their literals lead, one after the other; and lines that lead to no fault are such lines.
 use Prim.Native.Nat.{ℕ}
 use mathlib.Core.Path.{◌≡◌, refl, sym, ap, ap₂, ◌∙◌}
-use mathlib.Core.Bool.{Bool, true, false, ◌&&◌, cond}
+use mathlib.Core.Bool.{Bool, true, false, cond}
 use mathlib.Core.List.{List, [], ◌∷◌, ◌++◌, map, append-nil}
 use native.Mathlib.Omega.{arith}
-use borrow.Author.Tests.{eq-eqb, eqb-true}
 use lib.Dec.{eqb}
+use Rattle.std.specs.Prelude.{Option, Some, None, bytes_eq}
+use Rattle.std.proofs.lemmas.Slice.Eq.{bytes_eq-Decides}
 use Rattle.outcome.proofs.Never.{never}
 use Rattle.text.specs.declared.literals.Literal.{Literal}
-use Rattle.text.specs.declared.literals.Word.{Word}
-use Rattle.text.specs.declared.literals.Word.TheVariants.{Says, NotOne}
 use Rattle.text.specs.Literals.{literal_text, word_read, Sayable}
 use Rattle.text.specs.Pieces.{space, pieces, joined, Free, until}
 use Rattle.text.proofs.PieceLaws.{free_piece, piece_then, joined_pieces}
@@ -19,28 +18,15 @@ use Rattle.lines.specs.declared.readings.Stage.{Stage}
 use Rattle.lines.specs.declared.readings.Stage.TheVariants.{Start, Values, Valued, Refuted, Fault}
 use Rattle.lines.specs.declared.readings.Reading.{Reading}
 use Rattle.lines.specs.Values.{value_of, is_said, all_said}
-use Rattle.lines.specs.Steps.{values, same_bytes, at_stage, last_step, value_step, number_step, word_step, word_steps, value_line, said_step}
+use Rattle.lines.specs.Steps.{values, at_stage, last_step, value_step, number_step, word_step, word_steps, value_line, said_step}
 use Rattle.lines.specs.Sentences.{numbers_text, values_line, together, HasOne}
 use Rattle.lines.proofs.Folds.{steps_by, steps_faulty}
 use Rattle.lines.proofs.StepLaws.{word_at_fault, line_at_values, line_at_valued, line_at_fault}
 use Rattle.lines.proofs.WalkedLaws.{said_steps, said_faulty}
 
 -- the bytes are the same
-pub same_equal : (a b : List ℕ) → same_bytes a b ≡ true → a ≡ b
-unfolding same_bytes
-same_equal [] [] e = refl
-same_equal [] (c ∷ b) e = never cc
-same_equal (x ∷ a) [] e = never cc
-same_equal (x ∷ a) (c ∷ b) e = go (eqb x c) refl e (same_equal a b)
-  where
-    go : (t : Bool) → eqb x c ≡ t → t && same_bytes a b ≡ true → (same_bytes a b ≡ true → a ≡ b) → x ∷ a ≡ c ∷ b
-    go true p e later = ap₂ (λ y l. y ∷ l) (eqb-true x c p) (later e)
-    go false p e later = never cc
-
-pub same_self : (a : List ℕ) → same_bytes a a ≡ true
-unfolding same_bytes
-same_self [] = refl
-same_self (x ∷ a) = rw (eq-eqb x x refl) (same_self a)
+pub same_equal : (a b : List ℕ) → bytes_eq a b ≡ true → a ≡ b
+same_equal a b = (bytes_eq-Decides a b).0
 
 -- the words of a line of literals
 module _ where
@@ -71,20 +57,20 @@ Later Fault = Unit {0}
 
 module _ (most : ℕ) where
   -- what a word says, by the stage before it
-  abbrev read_step : Reading → Word → Reading
+  abbrev read_step : Reading → Option Literal → Reading
   read_step r w = elim r.stage [ Start ↦ at_stage Fault r | Values ↦ number_step most r w | Valued ↦ at_stage Fault r | Refuted ↦ at_stage Fault r | Fault ↦ at_stage Fault r ]
 
   abbrev pub literal_step : Reading → Literal → Reading
-  literal_step r l = read_step r (Says l)
+  literal_step r l = read_step r (Some l)
 
   abbrev pub literal_steps : Reading → List Literal → Reading
   literal_steps = steps_by literal_step
 
-  read_at_values : (r : Reading) (w : Word) → r.stage ≡ Values → read_step r w ≡ number_step most r w
+  read_at_values : (r : Reading) (w : Option Literal) → r.stage ≡ Values → read_step r w ≡ number_step most r w
   read_at_values r w e = rw e
 
   -- at any other stage, and where a word says nothing, it leads to a fault
-  read_elsewhere : (r : Reading) (w : Word) → (r.stage ≡ Values → ⊥) → read_step r w ≡ at_stage Fault r
+  read_elsewhere : (r : Reading) (w : Option Literal) → (r.stage ≡ Values → ⊥) → read_step r w ≡ at_stage Fault r
   read_elsewhere r w h = go r.stage refl
     where
       go : (s : Stage) → r.stage ≡ s → read_step r w ≡ at_stage Fault r
@@ -94,10 +80,10 @@ module _ (most : ℕ) where
       go Refuted p = rw p
       go Fault p = rw p
 
-  unread_faulty : (r : Reading) → (read_step r NotOne).stage ≡ Fault
+  unread_faulty : (r : Reading) → (read_step r None).stage ≡ Fault
   unread_faulty r = go r.stage refl
     where
-      go : (s : Stage) → r.stage ≡ s → (read_step r NotOne).stage ≡ Fault
+      go : (s : Stage) → r.stage ≡ s → (read_step r None).stage ≡ Fault
       go Start p = rw p
       go Values p = rw p
       go Valued p = rw p
@@ -110,7 +96,7 @@ module _ (most : ℕ) where
   pub literal_faulty : (r : Reading) (l : Literal) → r.stage ≡ Fault → (literal_step r l).stage ≡ Fault
   literal_faulty r l e = rw e
 
-  number_later : (r : Reading) (l : Literal) → Later (number_step most r (Says l)).stage
+  number_later : (r : Reading) (l : Literal) → Later (number_step most r (Some l)).stage
   number_later r l = number (eqb l.variable 0)
     where
       last : (t : Bool) → Later (cond t (at_stage Valued r) (at_stage Fault r)).stage
@@ -121,7 +107,7 @@ module _ (most : ℕ) where
       value true x e = tt
       value false x e = rw e tt
 
-      number : (t : Bool) → Later (cond t (last_step most r) (value_step most r l)).stage
+      number : (t : Bool) → Later (cond t (last_step most r) (value_step r l)).stage
       number true = last (all_said most r.values)
       number false = value (is_said (value_of r.values l.variable)) _ refl
 
@@ -130,7 +116,7 @@ module _ (most : ℕ) where
     where
       go : (s : Stage) → r.stage ≡ s → Later (literal_step r l).stage
       go Start p = rw p tt
-      go Values p = rw (read_at_values r (Says l) p) (number_later r l)
+      go Values p = rw (read_at_values r (Some l) p) (number_later r l)
       go Valued p = rw p tt
       go Refuted p = rw p tt
       go Fault p = rw p tt
@@ -162,9 +148,9 @@ module _ (most : ℕ) where
   words_say r [] h = record { literals = []; texts = refl; sayable = tt }
   words_say r (w ∷ ws) h = go (word_read most w) refl (words_say (word_step most r w) ws h)
     where
-      go : (x : Word) → word_read most w ≡ x → Words ws → Words (w ∷ ws)
-      go NotOne e later = absurd (h (words_faulty (word_step most r w) ws (ap (λ x. (read_step r x).stage) e ∙ unread_faulty r)))
-      go (Says l) e later =
+      go : (x : Option Literal) → word_read most w ≡ x → Words ws → Words (w ∷ ws)
+      go None e later = absurd (h (words_faulty (word_step most r w) ws (ap (λ x. (read_step r x).stage) e ∙ unread_faulty r)))
+      go (Some l) e later =
           let said = word_literal most w l e in
           record { literals = l ∷ later.literals; texts = ap₂ (λ x l. x ∷ l) said.0 later.texts; sayable = (said.1, later.sayable) }
 
@@ -176,12 +162,12 @@ module _ (most : ℕ) where
 
   line_leads : (r : Reading) (ls : List Literal) → HasOne ls → Every (Sayable most) ls → value_line most r (pieces space (values_line ls)) ≡ literal_steps r ls
   line_leads r [] one h = absurd (one refl)
-  line_leads r (l ∷ ls) one h = ap (value_line most r) (values_words (l ∷ ls)) ∙ rw (same_self values) (words_lead r (l ∷ ls) h)
+  line_leads r (l ∷ ls) one h = ap (value_line most r) (values_words (l ∷ ls)) ∙ words_lead r (l ∷ ls) h
 
   elsewhere_leads : (r : Reading) (ls : List Literal) → HasOne ls → (r.stage ≡ Values → ⊥) → literal_steps r ls ≡ at_stage Fault r
   unfolding steps_by
   elsewhere_leads r [] one h = absurd (one refl)
-  elsewhere_leads r (l ∷ ls) one h = ap (λ x. literal_steps x ls) (read_elsewhere r (Says l) h) ∙ fault_literals r ls
+  elsewhere_leads r (l ∷ ls) one h = ap (λ x. literal_steps x ls) (read_elsewhere r (Some l) h) ∙ fault_literals r ls
 
   said_leads : (r : Reading) (ls : List Literal) → Later r.stage → HasOne ls → Every (Sayable most) ls → said_step most r (values_line ls) ≡ literal_steps r ls
   said_leads r ls due one h = go r.stage refl
@@ -217,7 +203,7 @@ module _ (most : ℕ) where
   line_says : (r : Reading) (line : List ℕ) → ((value_line most r (pieces space line)).stage ≡ Fault → ⊥) → SaidLine line
   line_says r line h = go (pieces space line) refl h
     where
-      words : (first w : List ℕ) (ws : List (List ℕ)) (t : Bool) → same_bytes first values ≡ t → pieces space line ≡ first ∷ w ∷ ws → ((cond t (word_steps most r (w ∷ ws)) (at_stage Fault r)).stage ≡ Fault → ⊥) → SaidLine line
+      words : (first w : List ℕ) (ws : List (List ℕ)) (t : Bool) → bytes_eq first values ≡ t → pieces space line ≡ first ∷ w ∷ ws → ((cond t (word_steps most r (w ∷ ws)) (at_stage Fault r)).stage ≡ Fault → ⊥) → SaidLine line
       words first w ws true p e k =
           let x = words_say r (w ∷ ws) k in
           record {
@@ -231,7 +217,7 @@ module _ (most : ℕ) where
       go : (ps : List (List ℕ)) → pieces space line ≡ ps → ((value_line most r ps).stage ≡ Fault → ⊥) → SaidLine line
       go [] e k = absurd (k refl)
       go (first ∷ []) e k = absurd (k refl)
-      go (first ∷ w ∷ ws) e k = words first w ws (same_bytes first values) refl e k
+      go (first ∷ w ∷ ws) e k = words first w ws (bytes_eq first values) refl e k
 
   -- lines that lead to no fault are lines of literals
   pub record SaidLines (us : List (List ℕ)) : Type 0 where

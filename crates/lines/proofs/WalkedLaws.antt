@@ -1,20 +1,20 @@
 -- What the reader accepts is the text of some lines, which lead from the start to an end, one step each; comments make no step.
+use Rattle.std.proofs.Common.{Ok}
 use Prim.Native.Nat.{ℕ, suc, ◌+◌}
 use mathlib.Core.Path.{◌≡◌, refl, sym, ap, ◌∙◌}
 use mathlib.Core.Bool.{Bool, true, false, cond}
 use mathlib.Core.List.{List, [], ◌∷◌, ◌++◌}
 use mathlib.Core.Logic.{◌⊎◌, inl, inr, ⊎_elim}
 use lib.ListN.{length}
-use Rattle.outcome.specs.declared.checks.Check.TheVariants.{Accepted}
+use Rattle.outcome.specs.Checks.{outcome_of}
 use Rattle.outcome.proofs.Never.{never}
-use Rattle.outcome.proofs.CheckLaws.{refused_accepted}
+use Rattle.outcome.proofs.CheckLaws.{refused_ok}
 use Rattle.lines.specs.declared.readings.Stage.{Stage}
 use Rattle.lines.specs.declared.readings.Stage.TheVariants.{Start, Values, Valued, Refuted, Fault}
 use Rattle.lines.specs.declared.readings.Reading.{Reading}
-use Rattle.lines.specs.declared.readings.LinesRead.{LinesRead}
 use Rattle.lines.specs.Stages.{stands}
 use Rattle.lines.specs.Steps.{is_comment, said_step, line_step}
-use Rattle.lines.specs.Reads.{bad_at, read, ended, stood_then, lines_from}
+use Rattle.lines.specs.Reads.{LinesRead, bad_at, ended, stood_then, lines_from}
 use Rattle.lines.specs.Sentences.{uncommented}
 use Rattle.lines.proofs.Folds.{steps_by, steps_faulty}
 use Rattle.lines.proofs.StepLaws.{line_at_fault, comment_step, said_line_step}
@@ -29,20 +29,20 @@ ends_stand s (inl e) f = never cc
 ends_stand s (inr e) f = never cc
 
 -- 13 is no acceptance
-bad_accepted : {A : Type 0} (at : ℕ) (out : LinesRead) → out ≡ bad_at at → out.outcome ≡ Accepted → A
-bad_accepted at out e a = refused_accepted (ap (λ x. x.outcome) (sym e) ∙ a)
+bad_accepted : {A : Type 0} (at : ℕ) (out : LinesRead) → out ≡ bad_at at → outcome_of out ≡ Ok tt → A
+bad_accepted at out e a = refused_ok (ap (λ x. outcome_of x) (sym e) ∙ a)
 
-ended_accepted : (at : ℕ) (r : Reading) → (ended at r).outcome ≡ Accepted → (ended at r ≡ read r) × Ends r.stage
+ended_accepted : (at : ℕ) (r : Reading) → outcome_of (ended at r) ≡ Ok tt → (ended at r ≡ Ok r) × Ends r.stage
 ended_accepted at r e = go r.stage refl
   where
-    go : (s : Stage) → r.stage ≡ s → (ended at r ≡ read r) × Ends r.stage
+    go : (s : Stage) → r.stage ≡ s → (ended at r ≡ Ok r) × Ends r.stage
     go Start p = bad_accepted at (ended at r) (ended_at_start at r p) e
     go Values p = bad_accepted at (ended at r) (ended_at_values at r p) e
     go Valued p = (ended_at_valued at r p, inl p)
     go Refuted p = (ended_at_refuted at r p, inr p)
     go Fault p = bad_accepted at (ended at r) (ended_at_fault at r p) e
 
-stood_accepted : (at : ℕ) (r : Reading) (next : LinesRead) → (stood_then at r next).outcome ≡ Accepted → stood_then at r next ≡ next
+stood_accepted : (at : ℕ) (r : Reading) (next : LinesRead) → outcome_of (stood_then at r next) ≡ Ok tt → stood_then at r next ≡ next
 stood_accepted at r next e = go (stands r.stage) refl
   where
     go : (t : Bool) → stands r.stage ≡ t → stood_then at r next ≡ next
@@ -91,10 +91,10 @@ module _ (most : ℕ) where
   pub record Walked (r : Reading) (ps : List (List ℕ)) (out : LinesRead) : Type 0 where
     pub lines : List (List ℕ)
     pub cut : ps ≡ lines ++ ([] ∷ [])
-    pub comes : out ≡ read (line_steps r lines)
+    pub comes : out ≡ Ok (line_steps r lines)
     pub ends : Ends (line_steps r lines).stage
 
-  pub walked : (at : ℕ) (r : Reading) (ps : List (List ℕ)) → ((ps ≡ []) → ⊥) → (lines_from most at r ps).outcome ≡ Accepted → Walked r ps (lines_from most at r ps)
+  pub walked : (at : ℕ) (r : Reading) (ps : List (List ℕ)) → ((ps ≡ []) → ⊥) → outcome_of (lines_from most at r ps) ≡ Ok tt → Walked r ps (lines_from most at r ps)
   unfolding lines_from steps_by
   walked at r [] any e = absurd (any refl)
   walked at r ([] ∷ []) any e = let k = ended_accepted at r e in record { lines = []; cut = refl; comes = k.0; ends = k.1 }
@@ -102,11 +102,11 @@ module _ (most : ℕ) where
   walked at r (line ∷ next ∷ ls) any e =
       let there : ℕ = at + suc (length line) in
       let k = stood_accepted at (line_step most r line) (lines_from most there (line_step most r line) (next ∷ ls)) e in
-      let w = walked there (line_step most r line) (next ∷ ls) (λ h. never cc) (ap (λ x. x.outcome) (sym k) ∙ e) in
+      let w = walked there (line_step most r line) (next ∷ ls) (λ h. never cc) (ap (λ x. outcome_of x) (sym k) ∙ e) in
       record { lines = line ∷ w.lines; cut = ap (λ l. line ∷ l) w.cut; comes = k ∙ w.comes; ends = w.ends }
 
   -- lines that lead to an end are read
-  pub walks : (at : ℕ) (r : Reading) (ls : List (List ℕ)) → Ends (line_steps r ls).stage → lines_from most at r (ls ++ ([] ∷ [])) ≡ read (line_steps r ls)
+  pub walks : (at : ℕ) (r : Reading) (ls : List (List ℕ)) → Ends (line_steps r ls).stage → lines_from most at r (ls ++ ([] ∷ [])) ≡ Ok (line_steps r ls)
   unfolding lines_from steps_by
   walks at r [] h = ⊎_elim (ended_at_valued at r) (ended_at_refuted at r) h
   walks at r (line ∷ ls) h =

@@ -1,23 +1,28 @@
 -- The reader of a solver's lines: a walk over lines, each of which ends with 0A.
-use Rattle.std.specs.Prelude.{ℕ, suc, ◌+◌, List, [], ◌∷◌, length}
-use Rattle.outcome.specs.declared.checks.Check.TheVariants.{Accepted, Refused}
+use Rattle.std.specs.Prelude.{ℕ, suc, ◌+◌, List, [], ◌∷◌, length, Result, Ok, Err}
+use Rattle.outcome.specs.declared.refusals.Refusal.{Refusal}
 use Rattle.outcome.specs.Refusals.{refusal, bad_lines}
+use Rattle.outcome.specs.Checks.{answer_or}
 use Rattle.text.specs.Pieces.{line_end, pieces}
 use Rattle.lines.specs.declared.readings.Stage.TheVariants.{Start, Values, Valued, Refuted, Fault}
 use Rattle.lines.specs.declared.readings.Reading.{Reading}
-use Rattle.lines.specs.declared.readings.LinesRead.{LinesRead}
 use Rattle.lines.specs.Steps.{start, line_step}
 
--- 13 at a place, with the reading of no line beside it
-abbrev pub bad_at : ℕ → LinesRead
-bad_at at = record { outcome = Refused (refusal bad_lines at); reading = start }
+-- what lines say, or why they are refused
+abbrev pub LinesRead : Type 0
+LinesRead = Result Reading Refusal
 
-abbrev pub read : Reading → LinesRead
-read r = record { outcome = Accepted; reading = r }
+-- what lines say that can stand; the reading of no line where they can't
+abbrev pub reading_of : LinesRead → Reading
+reading_of read = answer_or start read
+
+-- 13 at a place
+abbrev pub bad_at : ℕ → LinesRead
+bad_at at = Err (refusal bad_lines at)
 
 -- the end of the data: all that is due has stood
 abbrev pub ended : ℕ → Reading → LinesRead
-ended at r = elim r.stage [ Start ↦ bad_at at | Values ↦ bad_at at | Valued ↦ read r | Refuted ↦ read r | Fault ↦ bad_at at ]
+ended at r = elim r.stage [ Start ↦ bad_at at | Values ↦ bad_at at | Valued ↦ Ok r | Refuted ↦ Ok r | Fault ↦ bad_at at ]
 
 -- what follows where the line at a place can stand
 abbrev pub stood_then : ℕ → Reading → LinesRead → LinesRead

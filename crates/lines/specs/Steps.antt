@@ -1,8 +1,6 @@
 -- What a line does to what was read before it, where the variables are 1 to `most`.
-use Rattle.std.specs.Prelude.{ℕ, Bool, true, false, ◌&&◌, cond, List, [], ◌∷◌, eqb}
+use Rattle.std.specs.Prelude.{ℕ, Bool, false, cond, List, [], ◌∷◌, Option, None, Some, bytes_eq, eqb}
 use Rattle.text.specs.declared.literals.Literal.{Literal}
-use Rattle.text.specs.declared.literals.Word.{Word}
-use Rattle.text.specs.declared.literals.Word.TheVariants.{Says, NotOne}
 use Rattle.text.specs.Literals.{word_read}
 use Rattle.text.specs.Pieces.{space, pieces}
 use Rattle.lines.specs.declared.readings.Stage.{Stage}
@@ -20,13 +18,6 @@ unsatisfiable = 0x73 ∷ 0x20 ∷ 0x55 ∷ 0x4e ∷ 0x53 ∷ 0x41 ∷ 0x54 ∷ 0
 abbrev pub values : List ℕ
 values = 0x76 ∷ []
 
--- are the bytes the same
-unfoldable pub same_bytes : List ℕ → List ℕ → Bool
-same_bytes [] [] = true
-same_bytes [] (c ∷ text) = false
-same_bytes (b ∷ bytes) [] = false
-same_bytes (b ∷ bytes) (c ∷ text) = eqb b c && same_bytes bytes text
-
 -- a line that starts with `c` is passed over
 abbrev pub is_comment : List ℕ → Bool
 is_comment [] = false
@@ -40,19 +31,23 @@ at_stage s r = record { stage = s; values = r.values }
 abbrev pub start : Reading
 start = record { stage = Start; values = no_values }
 
-module _ (most : ℕ) where
-  -- a variable's value: each stands once
-  abbrev pub value_step : Reading → Literal → Reading
-  value_step r l = cond (is_said (value_of r.values l.variable)) (at_stage Fault r) (record { stage = Values; values = with_value r.values l })
+-- a variable's value: each stands once
+abbrev pub value_step : Reading → Literal → Reading
+value_step r l = cond (is_said (value_of r.values l.variable)) (at_stage Fault r) (record { stage = Values; values = with_value r.values l })
 
+-- the first line says whether the clauses can be satisfied
+abbrev pub first_line : Reading → List ℕ → Reading
+first_line r line = cond (bytes_eq line satisfiable) (at_stage Values r) (cond (bytes_eq line unsatisfiable) (at_stage Refuted r) (at_stage Fault r))
+
+module _ (most : ℕ) where
   -- the 0: every variable has stood
   abbrev pub last_step : Reading → Reading
   last_step r = cond (all_said most r.values) (at_stage Valued r) (at_stage Fault r)
 
   -- a number: the 0, or a variable's value
-  abbrev pub number_step : Reading → Word → Reading
-  number_step r NotOne = at_stage Fault r
-  number_step r (Says l) = cond (eqb l.variable 0) (last_step r) (value_step r l)
+  abbrev pub number_step : Reading → Option Literal → Reading
+  number_step r None = at_stage Fault r
+  number_step r (Some l) = cond (eqb l.variable 0) (last_step r) (value_step r l)
 
   -- a word of a `v` line: nothing stands behind the 0
   abbrev pub word_step : Reading → List ℕ → Reading
@@ -66,11 +61,7 @@ module _ (most : ℕ) where
   abbrev pub value_line : Reading → List (List ℕ) → Reading
   value_line r [] = at_stage Fault r
   value_line r (first ∷ []) = at_stage Fault r
-  value_line r (first ∷ w ∷ ws) = cond (same_bytes first values) (word_steps r (w ∷ ws)) (at_stage Fault r)
-
-  -- the first line says whether the clauses can be satisfied
-  abbrev pub first_line : Reading → List ℕ → Reading
-  first_line r line = cond (same_bytes line satisfiable) (at_stage Values r) (cond (same_bytes line unsatisfiable) (at_stage Refuted r) (at_stage Fault r))
+  value_line r (first ∷ w ∷ ws) = cond (bytes_eq first values) (word_steps r (w ∷ ws)) (at_stage Fault r)
 
   -- a line that is no comment, by what was read before
   abbrev pub said_step : Reading → List ℕ → Reading

@@ -4,8 +4,7 @@
 mod readings;
 mod reads;
 mod steps;
-mod values;
 mod words;
 
-pub use readings::{LinesRead, Reading, Stage, Value};
+pub use readings::{Reading, Stage};
 pub use reads::read_lines;

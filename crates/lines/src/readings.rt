@@ -1,15 +1,13 @@
-// How far the lines have been read: what may follow, and the values said so far, one for each variable by its number.
-use outcome::Check;
+// How far the lines have been read: what may follow, and the values said so far, one for each variable by its number. What lies past the table is never said.
+ghost use Rattle.std.specs.Prelude.{◌≡◌};
+ghost use Rattle.lines.specs.declared.readings.Stage.TheVariants.{Values};
+ghost use Rattle.lines.specs.Steps.{start, at_stage};
+ghost use Rattle.lines.specs.Values.{value_of, with_value, all_said};
 
-// The value of a variable: whether it was said yet, and then whether it is true.
-#[derive(Clone, Copy)]
-pub struct Value {
-    pub said: bool,
-    pub truth: bool,
-}
+use text::Literal;
 
 // What was read so far, which decides what may follow but for comments.
-#[derive(Clone, Copy)]
+#[derive(Clone, Copy, PartialEq, Eq)]
 pub enum Stage {
     // No line: `s SATISFIABLE` or `s UNSATISFIABLE` is due.
     Start,
@@ -23,10 +21,11 @@ pub enum Stage {
     Fault,
 }
 
+// A value is there once it was said, and says then whether the variable is true.
 #[derive(Clone, Copy)]
 pub struct Reading {
     pub stage: Stage,
-    pub values: [Value; Reading::VALUES],
+    pub values: [Option<bool>; Reading::VALUES],
 }
 
 impl Reading {
@@ -35,11 +34,45 @@ impl Reading {
 
     // A value for each number from 0 on.
     pub const VALUES: usize = Reading::MOST_VARIABLES + 1;
-}
 
-// Whether the lines can stand, and what they say; beside a refusal, the reading of no line.
-#[derive(Clone, Copy)]
-pub struct LinesRead {
-    pub outcome: Check,
-    pub reading: Reading,
+    // Nothing was read.
+    pub(crate) fn start() -> Reading
+        ensures { result ≡ start }
+    {
+        Reading {
+            stage: Stage::Start,
+            values: [None; Reading::VALUES],
+        }
+    }
+
+    // What was read, at another stage.
+    pub(crate) fn at_stage(self, stage: Stage) -> Reading
+        ensures { result ≡ at_stage stage self }
+    {
+        Reading { stage, ..self }
+    }
+
+    // The value of the variable v, if it has one.
+    pub fn value(&self, v: usize) -> Option<bool>
+        ensures { result ≡ value_of self.now.values v }
+    {
+        self.values.get(v).copied().flatten()
+    }
+
+    // The value of one literal more.
+    pub(crate) fn with_value(mut self, l: Literal) -> Reading
+        ensures { result ≡ record { stage = Values; values = with_value self.values l } }
+    {
+        if l.variable < Reading::VALUES {
+            self.values[l.variable] = Some(!l.denied);
+        }
+        self.at_stage(Stage::Values)
+    }
+
+    // Has every variable from 1 to `most` a value.
+    pub(crate) fn all_said(&self, most: u32) -> bool
+        ensures { result ≡ all_said most self.now.values }
+    {
+        (1..=most as usize).all(|v| self.value(v).is_some())
+    }
 }

@@ -10,7 +10,7 @@ use lib.ListN.{length, get_or, set, length-set}
 use lib.Seq.{get_or-set_same, get_or-set_other}
 use Rattle.question.specs.Masks.{bit}
 use Rattle.theory.proofs.DigitLaws.{digit}
-use Rattle.mask.specs.declared.trials.Trial.TheVariants.{Next, Over}
+use Rattle.std.specs.Prelude.{Some, None}
 use Rattle.mask.specs.Reasons.{Decided, Reasons, raised}
 use Rattle.mask.specs.Trials.{IsOfNoUse, reason_at, HasReasons, IsDecided, TrialIs}
 use Rattle.mask.proofs.ReasonLaws.{decided_pass, decided_resolve, reasons_next, decided_over}
@@ -35,7 +35,7 @@ module _ (m : ℕ) (why : List ℕ) (decided : ℕ) where
 
   module _ (sets : ℕ) (hm : m < 2 ^ sets) where
     -- the first of them that m lacks is set, and those above it are its reason
-    pub trial_next : (q c : ℕ) → sets ≤ 32 → q < sets → bit m q ≡ false → Carried q c → TrialIs sets m decided why (set why q c) (Next q)
+    pub trial_next : (q c : ℕ) → sets ≤ 32 → q < sets → bit m q ≡ false → Carried q c → TrialIs sets m decided why (set why q c) (Some q)
     trial_next q c few hq e h = (hq, e, λ meets r d. (simp length-set r.0, reasons meets r d))
       where
         room : digit 2 m q + 1 < 2
@@ -54,5 +54,5 @@ module _ (m : ℕ) (why : List ℕ) (decided : ℕ) where
         reasons meets r d = reasons_next 2 base (IsOfNoUse meets) q (bit c) (reason_at why) (reason_at (set why q c)) m room (h meets r d) r.1 (here r.0) none kept
 
     -- no place is left
-    pub trial_over : (q c : ℕ) → sets ≤ q → Carried q c → TrialIs sets m decided why why Over
+    pub trial_over : (q c : ℕ) → sets ≤ q → Carried q c → TrialIs sets m decided why why None
     trial_over q c hq h meets r d w = decided_over 2 base (IsOfNoUse meets) sets q (bit c) m hq hm (h meets r d) w

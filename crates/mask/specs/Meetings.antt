@@ -1,8 +1,7 @@
--- Of which classes an entry is asked, whether a mask meets it, and what the test of a row takes for granted of its places.
-use Rattle.std.specs.Prelude.{ℕ, ◌<◌, Bool, not, eqb}
+-- Of which classes an entry is asked, and whether a mask meets it.
+use Rattle.std.specs.Prelude.{ℕ, Bool, not, eqb}
 use Rattle.std.specs.Int.Bits.{bit_and}
 use Rattle.theory.specs.Solutions.{all_rows}
-use Rattle.row.specs.declared.parts.RowParts.{RowParts}
 use Rattle.mask.specs.Least.{meets_row}
 use Rattle.mask.specs.Entries.{terms_in, rows_of_entry}
 
@@ -13,9 +12,3 @@ is_asked class e = not (eqb (bit_and (terms_in e) class) 0)
 -- does the mask m of the class meet the rows of the entry
 abbrev pub meets_entry : ℕ → ℕ → ℕ → Bool
 meets_entry class m e = all_rows (meets_row class m) (rows_of_entry e)
-
--- the places of a row are numbers of bits, of a mask or of a set of terms
-pub record PlacesAreBits (p : RowParts) : Type 0 where
-  pub first : p.first < 32
-  pub second : p.second < 32
-  pub third : p.third < 32

@@ -10,5 +10,5 @@ mod meetings;
 mod notes;
 mod trials;
 
-pub use entries::{entry_of, row_in, terms_in};
-pub use masks::{Smallest, smallest_mask};
+pub use entries::{entry_of, row_in, terms_in, test_in};
+pub use masks::smallest_mask;

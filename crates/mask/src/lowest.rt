@@ -1,38 +1,21 @@
-// The lowest set that a row names.
-ghost use Rattle.std.specs.Prelude.{◌≡◌, min};
-ghost use Rattle.row.specs.Rows.{row_of};
+// The lowest set that a test names.
+ghost use Rattle.std.specs.Prelude.{◌≡◌};
+ghost use Rattle.row.specs.Tests.{said};
 ghost use Rattle.mask.specs.Lowest.{lowest_set};
 
 use question::Question;
-use row::unpack;
+use row::Test;
 
-// The smaller of two numbers.
-fn smaller(x: u8, y: u8) -> u8
-    ensures { result ≡ min x y }
+// The lowest set that the test names, or as many as there can be where it names none.
+#[tactic(auto, unfolding(crate::specs::Lowest::lowest_set))]
+pub(crate) fn lowest_set(test: Test) -> u8
+    ensures { result ≡ lowest_set (said test) }
 {
-    if x < y { x } else { y }
-}
-
-// The lowest set that the row names, or as many as there can be where it names none.
-pub(crate) fn lowest_set(row: u32) -> u8
-    ensures { result ≡ lowest_set (row_of row).test }
-{
-    let p = unpack(row);
-    let kind = p.kind;
-    let x = p.first;
-    let y = p.second;
-    let z = p.third;
-    match kind {
-        0 => Question::MAX_SETS,
-        1 => Question::MAX_SETS,
-        2 => x,
-        3 => x,
-        4 => smaller(x, y),
-        5 => smaller(x, y),
-        6 => x,
-        7 => smaller(x, smaller(y, z)),
-        8 => smaller(x, smaller(y, z)),
-        9 => smaller(x, smaller(y, z)),
-        _ => Question::MAX_SETS,
+    match test {
+        Test::IsSame(_) | Test::IsNotSame(_) => Question::MAX_SETS,
+        Test::IsIn(x) | Test::IsNotIn(x) | Test::ExactlyIfSame(x, _) => x,
+        Test::ExactlyIfIn(x, y) | Test::ExactlyIfNotIn(x, y) => x.min(y),
+        Test::ExactlyIfOr(x, y, z) | Test::ExactlyIfAnd(x, y, z) | Test::ExactlyIfAndNot(x, y, z) =>
+            x.min(y.min(z)),
     }
 }

@@ -2,39 +2,29 @@
 ghost use Rattle.std.specs.Prelude.{◌≡◌};
 ghost use Rattle.question.specs.Masks.{bit as has_bit};
 ghost use Rattle.theory.specs.Sets.{fits};
-ghost use Rattle.row.specs.Rows.{row_of_parts};
-ghost use Rattle.mask.specs.Meetings.{is_asked, meets_entry, PlacesAreBits};
+ghost use Rattle.row.specs.Tests.{said, HasRoom};
+ghost use Rattle.mask.specs.Meetings.{is_asked, meets_entry};
 
 use crate::bits::bit;
-use crate::entries::{row_in, terms_in};
-use row::{RowParts, unpack};
+use crate::entries::{terms_in, test_in};
+use row::Test;
 
-// Does a class with the mask m pass the row's test.
-fn passes(p: RowParts, class: u32, m: u32) -> bool
-    requires { PlacesAreBits p }
-    ensures { result ≡ fits m (has_bit class) (row_of_parts p).test }
+// Does a class with the mask m pass the test.
+fn passes(test: Test, class: u32, m: u32) -> bool
+    requires { HasRoom (said test) }
+    ensures { result ≡ fits m (has_bit class) (said test) }
 {
-    let kind = p.kind;
-    let x = p.first;
-    let y = p.second;
-    let z = p.third;
-    let in_x = bit(m, x);
-    let in_y = bit(m, y);
-    let in_z = bit(m, z);
-    let same_x = bit(class, x);
-    let same_y = bit(class, y);
-    match kind {
-        0 => same_x,
-        1 => !same_x,
-        2 => in_x,
-        3 => !in_x,
-        4 => in_x == in_y,
-        5 => in_x == !in_y,
-        6 => in_x == same_y,
-        7 => in_x == in_y | in_z,
-        8 => in_x == in_y & in_z,
-        9 => in_x == in_y & !in_z,
-        _ => same_x,
+    match test {
+        Test::IsSame(d) => bit(class, d),
+        Test::IsNotSame(d) => !bit(class, d),
+        Test::IsIn(x) => bit(m, x),
+        Test::IsNotIn(x) => !bit(m, x),
+        Test::ExactlyIfIn(x, y) => bit(m, x) == bit(m, y),
+        Test::ExactlyIfNotIn(x, y) => bit(m, x) == !bit(m, y),
+        Test::ExactlyIfSame(x, a) => bit(m, x) == bit(class, a),
+        Test::ExactlyIfOr(x, y, z) => bit(m, x) == bit(m, y) | bit(m, z),
+        Test::ExactlyIfAnd(x, y, z) => bit(m, x) == bit(m, y) & bit(m, z),
+        Test::ExactlyIfAndNot(x, y, z) => bit(m, x) == bit(m, y) & !bit(m, z),
     }
 }
 
@@ -52,5 +42,5 @@ pub(crate) fn meets(entry: u64, class: u32, m: u32) -> bool
     if !is_asked(entry, class) {
         return true;
     }
-    passes(unpack(row_in(entry)), class, m)
+    passes(test_in(entry), class, m)
 }

@@ -4,31 +4,22 @@ ghost use Rattle.mask.specs.Trials.{TrialIs};
 
 use crate::bits::bit;
 
-#[derive(Clone, Copy)]
-pub(crate) enum Trial {
-    // The next mask worth a trial is m raised at this bit.
-    Next(u8),
-    // No mask is left.
-    Over,
-}
-
+// The bit at which m is raised to the next mask worth a trial, if a mask is left.
 // The bits of m that decide, lowest first: one that m has gives way to its reason, and the first that m lacks is set, for the reason of those above it.
-pub(crate) fn next_mask(m: u32, why: &mut [u32; 32], decided: u32, sets: u8) -> Trial
+pub(crate) fn next_mask(m: u32, why: &mut [u32; 32], decided: u32, sets: u8) -> Option<u8>
     requires { (sets ≤ 32) × (m < 2 ^ sets) }
     ensures { TrialIs sets m decided why.old why.new result }
 {
     let mut c = decided;
-    let mut q: u8 = 0;
-    while q < sets {
+    for q in 0..sets {
         if bit(c, q) {
             let at = q as usize;
             if !bit(m, q) {
                 why[at] = c;
-                return Trial::Next(q);
+                return Some(q);
             }
-            c = c | why[at];
+            c |= why[at];
         }
-        q += 1;
     }
-    Trial::Over
+    None
 }

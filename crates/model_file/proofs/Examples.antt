@@ -1,4 +1,5 @@
 -- Models beside document 01's case I, by computing: the table of docs/FORMAT.md. Case I is E=1 S=2, s0={e0}, s0≠s1, e0 in s1.
+use Rattle.std.proofs.Common.{Ok, Err, Some, None}
 use Prim.Native.Nat.{ℕ}
 use mathlib.Core.Path.{◌≡◌, refl}
 use mathlib.Core.List.{List, [], ◌∷◌, map}
@@ -8,10 +9,8 @@ use Rattle.question.specs.Questions.{statements}
 use Rattle.statement.specs.Meaning.{everywhere}
 use Rattle.theory.specs.Cases.{case_i}
 use Rattle.body.specs.Bodies.{masks_in}
-use Rattle.judge.specs.declared.judging.Judgement.{Judgement}
-use Rattle.judge.specs.declared.judging.Judgement.TheVariants.{Yes, No, Refused}
 use Rattle.judge.specs.Models.{elements_inside, masks_inside, is_model}
-use Rattle.judge.specs.Judgements.{first_failing, model_judged}
+use Rattle.judge.specs.Judgements.{Judgement, first_failing, model_judged}
 use Rattle.model_file.specs.Reads.{has_its_length, model_in, model_read}
 use Rattle.model_file.specs.Judges.{bytes_judged}
 
@@ -24,15 +23,15 @@ abbrev pub row : List ℕ → Judgement → Row
 row m j = record { model = m; due = j }
 
 abbrev pub bad : Judgement
-bad = Refused (refusal bad_model 0)
+bad = Err (refusal bad_model 0)
 
 abbrev pub table : List Row
 table =
-    row (2 ∷ 0 ∷ 0 ∷ 3 ∷ 0 ∷ 2 ∷ []) Yes
-    ∷ row (1 ∷ 0 ∷ 0 ∷ 3 ∷ []) (No 1)
-    ∷ row (2 ∷ 1 ∷ 0 ∷ 3 ∷ 0 ∷ 2 ∷ []) (No 0)
-    ∷ row (2 ∷ 0 ∷ 0 ∷ 1 ∷ 0 ∷ 2 ∷ []) (No 2)
-    ∷ row (3 ∷ 0 ∷ 0 ∷ 3 ∷ 0 ∷ 2 ∷ 0 ∷ 0 ∷ []) Yes
+    row (2 ∷ 0 ∷ 0 ∷ 3 ∷ 0 ∷ 2 ∷ []) (Ok None)
+    ∷ row (1 ∷ 0 ∷ 0 ∷ 3 ∷ []) (Ok (Some 1))
+    ∷ row (2 ∷ 1 ∷ 0 ∷ 3 ∷ 0 ∷ 2 ∷ []) (Ok (Some 0))
+    ∷ row (2 ∷ 0 ∷ 0 ∷ 1 ∷ 0 ∷ 2 ∷ []) (Ok (Some 2))
+    ∷ row (3 ∷ 0 ∷ 0 ∷ 3 ∷ 0 ∷ 2 ∷ 0 ∷ 0 ∷ []) (Ok None)
     ∷ row [] bad
     ∷ row (0 ∷ []) bad
     ∷ row (2 ∷ 2 ∷ 0 ∷ 3 ∷ 0 ∷ 2 ∷ []) bad

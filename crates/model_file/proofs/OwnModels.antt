@@ -1,4 +1,5 @@
 -- The model of a solution, as bytes: its number of classes, the class numbers of the element names, and its masks. It is what an answer has in fields 41 and 42, and the judge says yes to it.
+use Rattle.std.proofs.Common.{Ok, None}
 use Prim.Native.Nat.{ℕ, ◌^◌, ◌≤◌, ◌<◌}
 use mathlib.Core.Path.{◌≡◌, refl, sym, ap, ap₂, fun_ext, ◌∙◌}
 use mathlib.Core.Bool.{Bool, true, ◌&&◌}
@@ -26,7 +27,6 @@ use Rattle.theory.specs.Answers.{Solves}
 use Rattle.theory.proofs.ArrangementLaws.{classes_few}
 use Rattle.body.specs.Bodies.{mask_bytes, masks_body}
 use Rattle.judge.specs.declared.models.Model.{Model}
-use Rattle.judge.specs.declared.judging.Judgement.TheVariants.{Yes}
 use Rattle.judge.specs.Models.{assigned, elements_inside, masks_inside, is_model}
 use Rattle.judge.specs.Judgements.{model_judged, judged}
 use Rattle.judge.specs.Shown.{model_shown}
@@ -76,7 +76,7 @@ module _ (q : Question) (is : IsAccepted q) (sol : Solution) (s : Solves q sol) 
   unfolding cleaned
   size_back = refl
 
-  shown_sound : judged q m ≡ Yes
+  shown_sound : judged q m ≡ Ok None
   shown_sound = judge_yes q is sol s
 
   shown_good : is_model E q.sets m ≡ true
@@ -111,8 +111,8 @@ module _ (q : Question) (is : IsAccepted q) (sol : Solution) (s : Solves q sol) 
   twelve = (padded_length max_terms sol.arrangement terms_few, padded_length max_terms sol.masks masks_few)
 
   -- the judge says yes to the bytes of a solution's model
-  pub own_judged : bytes_judged q (model_file E m) ≡ Yes
+  pub own_judged : bytes_judged q (model_file E m) ≡ Ok None
   own_judged =
-      bytes_said q (model_file E m) (sym (read_back E q.sets m (omega (arith, is.few_elements)) is.few_sets twelve shown_good)) refl
+      bytes_said q (model_file E m) (read_back E q.sets m (omega (arith, is.few_elements)) is.few_sets twelve shown_good)
       ∙ sym as_judged
       ∙ (yes_means q (cleaned E m)).1 (record { question_accepted = is; model = back_good; all_hold = back_holds })

@@ -1,4 +1,5 @@
 -- Both round trips: a model that is written is read back, with what lies past its names and its domain set to 0; and a good model that is read is written again, byte for byte.
+use Rattle.std.proofs.Common.{Ok}
 use Prim.Native.Nat.{ℕ, ◌+◌, ◌*◌, ◌/◌, ◌^◌, ◌≤◌, ◌<◌, min}
 use mathlib.Core.Path.{◌≡◌, refl, sym, ap, ap₂, ◌∙◌}
 use mathlib.Core.Bool.{Bool, true, ◌&&◌}
@@ -10,7 +11,6 @@ use lib.Dec.{leb, ltb, ltb→lt}
 use lib.ListN.{length, get_or, take, drop, length-append, length-drop, take-append-drop}
 use lib.Seq.{length-take-le, get_or-take, drop-drop, drop-cons, take_all, take_at, drop_at}
 use Rattle.outcome.specs.Padded.{padded}
-use Rattle.outcome.specs.declared.checks.Check.TheVariants.{Accepted}
 use Rattle.outcome.proofs.PaddedLaws.{take_padded}
 use Rattle.number.specs.Numbers.{AreBytes}
 use Rattle.number.proofs.NumberLaws.{bytes_drop}
@@ -22,7 +22,6 @@ use Rattle.body.specs.Bodies.{mask_bytes, masks_body, masks_in, numbers_of, mask
 use Rattle.body.proofs.BodyLaws.{body_length, in_length, in_body, body_in, numbers_part}
 use Rattle.judge.specs.declared.models.Model.{Model}
 use Rattle.judge.specs.Models.{elements_inside, masks_inside, is_model}
-use Rattle.model_file.specs.declared.reads.ReadModel.{ReadModel}
 use Rattle.model_file.specs.Bytes.{model_length, model_file, cleaned}
 use Rattle.model_file.specs.Reads.{size_in, elements_in, has_its_length, model_in, model_read}
 use Rattle.model_file.specs.Meaning.{IsGoodModel}
@@ -104,8 +103,8 @@ module _ (E S : ℕ) (m : Model) (names : E ≤ max_terms) (sets : S ≤ max_set
       ∙ ap (λ n. let x : Model = record { size = n; elements = padded max_terms elements; masks = padded max_terms masks } in x) first
 
   -- a model that is written is read back
-  pub read_back : model_read E (model_file E m) ≡ record { outcome = Accepted; model = cleaned E m }
-  read_back = read_said E (model_file E m) whole ∙ ap (λ k. let x : ReadModel = record { outcome = Accepted; model = k } in x) model_back
+  pub read_back : model_read E (model_file E m) ≡ Ok (cleaned E m)
+  read_back = read_said E (model_file E m) whole ∙ ap Ok model_back
 
 -- a good model that is read is written again
 module _ (E S : ℕ) (bytes : List ℕ) (names : E ≤ max_terms) (are : AreBytes bytes) (g : IsGoodModel E S bytes) where

@@ -1,13 +1,13 @@
 -- What the judge says of an accepted question and the bytes of any model, in the words of the question's meaning: 11 exactly where they are no good model,
 -- yes where every statement holds in the assignment that they mean, and else the index of the first that fails.
+use Rattle.std.proofs.Common.{Ok, Err, Some, None}
 use Prim.Native.Nat.{ℕ, ◌≤◌, ◌<◌}
-use mathlib.Core.Path.{◌≡◌, refl, sym, ap, subst, ◌∙◌}
-use mathlib.Core.Bool.{Bool, true, false, cond}
+use mathlib.Core.Path.{◌≡◌, refl, sym, subst, ◌∙◌}
+use mathlib.Core.Bool.{Bool, true, false}
 use mathlib.Core.List.{List}
 use native.Mathlib.Omega.{arith}
 use borrow.Author.Tests.{eq-eqb}
 use lib.ListN.{length}
-use Rattle.outcome.specs.declared.refusals.Refusal.{Refusal}
 use Rattle.outcome.specs.Refusals.{refusal, bad_model}
 use Rattle.outcome.proofs.Never.{never}
 use Rattle.question.specs.declared.questions.Question.{Question}
@@ -16,15 +16,13 @@ use Rattle.question.specs.Questions.{statements}
 use Rattle.question.specs.Checks.{IsAccepted}
 use Rattle.question.proofs.AcceptedLaws.{accepted}
 use Rattle.question.proofs.StatementsLaws.{statements_length}
-use Rattle.statement.specs.Meaning.{holds, AllHold}
+use Rattle.statement.specs.Meaning.{AllHold}
 use Rattle.judge.specs.declared.models.Model.{Model}
-use Rattle.judge.specs.declared.judging.Judgement.{Judgement}
-use Rattle.judge.specs.declared.judging.Judgement.TheVariants.{Yes, No, Refused}
 use Rattle.judge.specs.Models.{assigned, is_model}
-use Rattle.judge.specs.Judgements.{first_failing, model_judged, judged}
+use Rattle.judge.specs.Judgements.{Judgement, model_judged, judged}
 use Rattle.judge.proofs.Verdicts.{FirstToFail, no_refusal, yes_means, no_means}
 use Rattle.model_file.specs.Bytes.{model_length}
-use Rattle.model_file.specs.Reads.{size_in, has_its_length, model_in, no_model}
+use Rattle.model_file.specs.Reads.{size_in, has_its_length, model_in}
 use Rattle.model_file.specs.Meaning.{assignment_in, IsGoodModel}
 use Rattle.model_file.specs.Judges.{bytes_judged}
 use Rattle.model_file.proofs.ReadLaws.{its_length, read_said, read_bad}
@@ -33,9 +31,9 @@ use Rattle.model_file.proofs.MeaningLaws.{same_assignment, good_passes, passing_
 
 -- the ways in which the bytes of a model are judged
 pub data Judging (q : Question) (bytes : List ℕ) : Judgement → Type 0 where
-  model_bad : (IsGoodModel q.elements q.sets bytes → ⊥) → Judging q bytes (Refused (refusal bad_model 0))
-  fails_at : (i : ℕ) → IsGoodModel q.elements q.sets bytes → FirstToFail (assignment_in q.elements bytes) (statements q) i → Judging q bytes (No i)
-  all_hold : IsGoodModel q.elements q.sets bytes → AllHold (assignment_in q.elements bytes) (statements q) → Judging q bytes Yes
+  model_bad : (IsGoodModel q.elements q.sets bytes → ⊥) → Judging q bytes (Err (refusal bad_model 0))
+  fails_at : (i : ℕ) → IsGoodModel q.elements q.sets bytes → FirstToFail (assignment_in q.elements bytes) (statements q) i → Judging q bytes (Ok (Some i))
+  all_hold : IsGoodModel q.elements q.sets bytes → AllHold (assignment_in q.elements bytes) (statements q) → Judging q bytes (Ok None)
 
 module _ (q : Question) (is : IsAccepted q) (bytes : List ℕ) where
   abbrev E : ℕ
@@ -63,11 +61,6 @@ module _ (q : Question) (is : IsAccepted q) (bytes : List ℕ) where
     unfolding model_judged
     bad p = rw p (model_bad (λ g. let both = sym p ∙ good_passes E q.sets bytes names g in never cc))
 
-    -- what passes the test is not refused
-    not_refused : is_model E q.sets m ≡ true → (r : Refusal) → model_judged q m ≡ Refused r → ⊥
-    unfolding model_judged
-    not_refused p r e = no_refusal (holds (assigned m)) 0 (statements q) r (ap (λ b. cond b (first_failing (holds (assigned m)) 0 (statements q)) (Refused (refusal bad_model 0))) (sym p) ∙ e)
-
     good : is_model E q.sets m ≡ true → Judging q bytes (model_judged q m)
     good p = go (model_judged q m) refl
       where
@@ -78,9 +71,9 @@ module _ (q : Question) (is : IsAccepted q) (bytes : List ℕ) where
         same = same_assignment E bytes names whole is_good_lem.few_elements
 
         go : (j : Judgement) → model_judged q m ≡ j → Judging q bytes j
-        go Yes e = all_hold is_good_lem (subst (λ A. AllHold A (statements q)) same ((yes_means q m).0 (as_judged ∙ e)).all_hold)
-        go (No i) e = fails_at i is_good_lem (subst (λ A. FirstToFail A (statements q) i) same ((no_means q m i).0 (as_judged ∙ e)).first)
-        go (Refused r) e = absurd (not_refused p r e)
+        go (Ok None) e = all_hold is_good_lem (subst (λ A. AllHold A (statements q)) same ((yes_means q m).0 (as_judged ∙ e)).all_hold)
+        go (Ok (Some i)) e = fails_at i is_good_lem (subst (λ A. FirstToFail A (statements q) i) same ((no_means q m i).0 (as_judged ∙ e)).first)
+        go (Err r) e = absurd (no_refusal q m p r e)
 
     tested : (b : Bool) → is_model E q.sets m ≡ b → Judging q bytes (model_judged q m)
     tested true p = good p
@@ -92,9 +85,9 @@ module _ (q : Question) (is : IsAccepted q) (bytes : List ℕ) where
     where
       go : (b : Bool) → has_its_length E bytes ≡ b → Judging q bytes (bytes_judged q bytes)
       go false h =
-          subst (Judging q bytes) (sym (bytes_refused q bytes {read = no_model} (sym (read_bad E bytes h)) refl))
+          subst (Judging q bytes) (sym (bytes_refused q bytes (read_bad E bytes h)))
           (model_bad (λ g. let both = sym h ∙ good_length g in never cc))
-      go true h = subst (Judging q bytes) (sym (bytes_said q bytes (sym (read_said E bytes h)) refl)) (tested (its_length E bytes h) (is_model E q.sets m) refl)
+      go true h = subst (Judging q bytes) (sym (bytes_said q bytes (read_said E bytes h))) (tested (its_length E bytes h) (is_model E q.sets m) refl)
 
 -- the first statement that fails has an index below 64
 pub index_below : (q : Question) → IsAccepted q → (bytes : List ℕ) (i : ℕ) → FirstToFail (assignment_in q.elements bytes) (statements q) i → i < max_statements

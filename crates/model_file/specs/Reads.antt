@@ -1,12 +1,9 @@
 -- The reader of models: bytes that have the length of their n say a model.
-use Rattle.std.specs.Prelude.{ℕ, ◌+◌, Bool, cond, List, [], eqb, length, get_or, take, drop}
-use Rattle.outcome.specs.Padded.{padded}
+use Rattle.std.specs.Prelude.{ℕ, ◌+◌, Bool, cond, List, eqb, length, get_or, take, drop, Result, Ok, Err}
+use Rattle.outcome.specs.declared.refusals.Refusal.{Refusal}
 use Rattle.outcome.specs.Refusals.{refusal, bad_model}
-use Rattle.outcome.specs.declared.checks.Check.TheVariants.{Accepted, Refused}
-use Rattle.question.specs.Limits.{max_terms}
 use Rattle.body.specs.Bodies.{numbers_of, masks_of}
 use Rattle.judge.specs.declared.models.Model.{Model}
-use Rattle.model_file.specs.declared.reads.ReadModel.{ReadModel}
 use Rattle.model_file.specs.Bytes.{model_length}
 
 -- n, the first byte
@@ -25,10 +22,6 @@ has_its_length E bytes = eqb (length bytes) (model_length E (size_in bytes))
 unfoldable pub model_in : ℕ → List ℕ → Model
 model_in E bytes = record { size = size_in bytes; elements = numbers_of (elements_in E bytes); masks = masks_of (drop (1 + E) bytes) }
 
--- 11 at place 0, with a model of nothing beside it
-abbrev pub no_model : ReadModel
-no_model = record { outcome = Refused (refusal bad_model 0); model = record { size = 0; elements = padded max_terms []; masks = padded max_terms [] } }
-
--- the model of some bytes for E names
-unfoldable pub model_read : ℕ → List ℕ → ReadModel
-model_read E bytes = cond (has_its_length E bytes) (record { outcome = Accepted; model = model_in E bytes }) no_model
+-- the model of some bytes for E names, or 11 at place 0
+unfoldable pub model_read : ℕ → List ℕ → Result Model Refusal
+model_read E bytes = cond (has_its_length E bytes) (Ok (model_in E bytes)) (Err (refusal bad_model 0))

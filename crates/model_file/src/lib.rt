@@ -5,4 +5,4 @@ mod files;
 mod reads;
 
 pub use files::judge_file;
-pub use reads::{ReadModel, read_model};
+pub use reads::read_model;

@@ -2,7 +2,8 @@
 ghost use Rattle.std.specs.Prelude.{◌≡◌};
 ghost use Rattle.outcome.specs.Refusals.{refusal};
 
-#[derive(Clone, Copy)]
+// The number is a byte and no enum: `new` promises a refusal of any number, and a call for C gives it as a byte.
+#[derive(Clone, Copy, PartialEq, Eq)]
 pub struct Refusal {
     pub number: u8,
     pub place: usize,

@@ -95,34 +95,34 @@ unfolding dropped
 dropped_statements q i n few = statements_of q.elements q.sets (without i n (statements q)) (omega (arith, without_shorter i n (statements q), statements_length q))
 
 -- the walk that copies all statements but n from i on: one turn, and the end
-module _ (q : Question) (i n : ℕ) (long : length q.table ≡ max_statements) where
+module _ (q : Question) (i n : ℕ) where
   abbrev pub kept_of : ℕ → Question
   kept_of j = question_of q.elements q.sets (without i n (take j (statements q)))
 
-  kept_few : (j : ℕ) → length (without i n (take j (statements q))) ≤ j
-  kept_few j = omega (arith, without_shorter i n (take j (statements q)), length-take j (statements q))
+  pub kept_count : (j : ℕ) → (kept_of j).count ≤ j
+  kept_count j = omega (arith, without_shorter i n (take j (statements q)), length-take j (statements q))
 
-  module _ (j : ℕ) (d : Record) (below : j < q.count) (inside : j < max_statements) where
-    upto : length (take j (statements q)) ≡ j
-    upto = length-take-le j (statements q) (omega (arith, statements_length q, long))
+  module _ (j : ℕ) (s : Statement) (few : j < max_statements) (next : take (j + 1) (statements q) ≡ take j (statements q) ++ (s ∷ [])) where
+    front : List Statement
+    front = take j (statements q)
 
-    more : take (j + 1) (statements q) ≡ take j (statements q) ++ ((get_or q.table j d).statement ∷ [])
-    more = statements_more q j d below (omega (arith, long))
+    upto : length front ≡ j
+    unfolding front
+    upto = omega (arith, ap length next, length-append (take j (statements q)) (s ∷ []), length-take j (statements q), length-take (j + 1) (statements q))
 
-    one_more : without i n (take j (statements q) ++ ((get_or q.table j d).statement ∷ [])) ≡ without i n (take j (statements q)) ++ ((get_or q.table j d).statement ∷ []) →
-        added (kept_of j) (get_or q.table j d).statement ≡ kept_of (j + 1)
-    one_more e =
-        added_of q.elements q.sets (without i n (take j (statements q))) (get_or q.table j d).statement (omega (arith, kept_few j))
-        ∙ ap (question_of q.elements q.sets) (sym (ap (without i n) more ∙ e))
+    one_more : without i n (front ++ (s ∷ [])) ≡ without i n front ++ (s ∷ []) → added (kept_of j) s ≡ kept_of (j + 1)
+    unfolding front
+    one_more e = added_of q.elements q.sets (without i n front) s (omega (arith, kept_count j)) ∙ ap (question_of q.elements q.sets) (sym (ap (without i n) next ∙ e))
 
-    pub kept_before : j < i → added (kept_of j) (get_or q.table j d).statement ≡ kept_of (j + 1)
-    kept_before h = one_more (without_before (take j (statements q)) (get_or q.table j d).statement i n (omega (arith, upto)))
+    pub kept_before : j < i → added (kept_of j) s ≡ kept_of (j + 1)
+    kept_before h = one_more (without_before front s i n (omega (arith, upto)))
 
-    pub kept_behind : i + n ≤ j → added (kept_of j) (get_or q.table j d).statement ≡ kept_of (j + 1)
-    kept_behind h = one_more (without_behind (take j (statements q)) (get_or q.table j d).statement i n (omega (arith, upto)))
+    pub kept_behind : i + n ≤ j → added (kept_of j) s ≡ kept_of (j + 1)
+    kept_behind h = one_more (without_behind front s i n (omega (arith, upto)))
 
     pub kept_inside : i ≤ j → j < i + n → kept_of j ≡ kept_of (j + 1)
-    kept_inside h k = ap (question_of q.elements q.sets) (sym (ap (without i n) more ∙ without_inside (take j (statements q)) (get_or q.table j d).statement i n (omega (arith, upto)) (omega (arith, upto))))
+    unfolding front
+    kept_inside h k = ap (question_of q.elements q.sets) (sym (ap (without i n) next ∙ without_inside front s i n (omega (arith, upto)) (omega (arith, upto))))
 
   pub kept_none : kept_of 0 ≡ declaring q.elements q.sets
   kept_none = ap (question_of q.elements q.sets) (ap₂ (λ a b. a ++ b) (take-nil i) (drop-nil (i + n))) ∙ sym (declaring_of q.elements q.sets)
@@ -130,6 +130,3 @@ module _ (q : Question) (i n : ℕ) (long : length q.table ≡ max_statements) w
   pub kept_all : (j : ℕ) → length (statements q) ≤ j → kept_of j ≡ dropped q i n
   unfolding dropped
   kept_all j h = ap (λ l. question_of q.elements q.sets (without i n l)) (take_all j (statements q) h)
-
-  pub kept_count : (j : ℕ) → (kept_of j).count ≤ j
-  kept_count j = kept_few j

@@ -3,6 +3,7 @@ use Prim.Native.Nat.{ℕ, suc, ◌<◌}
 use mathlib.Core.Path.{◌≡◌, refl, ap, ap₂, subst, ◌∙◌}
 use mathlib.Core.Bool.{Bool, true, false, not, ◌&&◌, ◌||◌, beq, cond}
 use mathlib.Core.List.{List, [], ◌∷◌, map}
+use Rattle.std.specs.Prelude.{Ok, Err}
 use borrow.Author.Tests.{ltb-true}
 use lib.Dec.{T, eqb}
 use Rattle.outcome.proofs.Never.{never}
@@ -10,7 +11,6 @@ use Rattle.statement.specs.declared.names.ElementName.{ElementName}
 use Rattle.statement.specs.declared.names.SetName.{SetName}
 use Rattle.statement.specs.declared.statements.Statement.{Statement}
 use Rattle.statement.specs.declared.statements.Statement.TheVariants.{ElementsEqual, ElementsDiffer, In, NotIn, SetsEqual, SetsDiffer, Empty, Single, Union, Intersection, Difference}
-use Rattle.statement.specs.declared.name_tests.NameTest.TheVariants.{Declared, Undeclared}
 use Rattle.statement.specs.Statements.{Name, element, set, names_of}
 use Rattle.statement.specs.NameTests.{declared, leftmost}
 use Rattle.question.specs.Checks.{AllDeclared}
@@ -56,12 +56,12 @@ module _ (A B : Assignment) (size : A.size ≡ B.size) where
     agree (element a) e = elements a (ltb-true a.0 E e)
     agree (set x) e = parts x (ltb-true x.0 S e)
 
-    agree_all : (at : ℕ) (ns : List Name) → leftmost at (map (declared E S) ns) ≡ Declared → AgreeAll ns
+    agree_all : (at : ℕ) (ns : List Name) → leftmost at (map (declared E S) ns) ≡ Ok tt → AgreeAll ns
     agree_all at [] h = tt
     agree_all at (n ∷ ns) h = go (declared E S n) refl h (agree_all (suc at) ns)
       where
-        go : (b : Bool) → declared E S n ≡ b → cond b (leftmost (suc at) (map (declared E S) ns)) (Undeclared at) ≡ Declared →
-            (leftmost (suc at) (map (declared E S) ns) ≡ Declared → AgreeAll ns) → AgreeAll (n ∷ ns)
+        go : (b : Bool) → declared E S n ≡ b → cond b (leftmost (suc at) (map (declared E S) ns)) (Err at) ≡ Ok tt →
+            (leftmost (suc at) (map (declared E S) ns) ≡ Ok tt → AgreeAll ns) → AgreeAll (n ∷ ns)
         go true p e rest = (agree n p, rest e)
         go false p e rest = never cc
 

@@ -6,7 +6,7 @@ use Rattle.question.proofs.admissions.admit.Reads as admit
 use Rattle.question.proofs.checks.check.Reads as check
 use Rattle.question.proofs.checks.statement_count.Reads as statement_count
 use Rattle.question.proofs.checks.terms.Reads as terms
-use Rattle.question.proofs.admissions.Admission.at.Reads as at
+use Rattle.question.proofs.admissions.NotAdmitted.at.Reads as at
 use Rattle.question.proofs.admissions.may_add.Reads as may_add
 use Rattle.question.proofs.checks.check_names.Reads as check_names
 

@@ -55,12 +55,20 @@ module _ (q : Question) where
   unfolding statements
   statements_at_lem i d below inside = rw add-one (drop-cons (statements q) i d.statement (omega (arith, statements_length)) ∙ ap (λ s. s ∷ drop (suc i) (statements q)) (statement_at i d below))
 
-  -- past the count, or past the table, no statement is left
-  pub statements_end : (i : ℕ) → q.count ≤ i → drop i (statements q) ≡ []
-  statements_end i h = drop_of_length-le (statements q) {i = i} (omega (arith, statements_length))
+  -- a walk over the first n records: the statement of a turn and those after it, and what is left at the end
+  pub statements_turn : (n i : ℕ) (d : Record) → n ≤ q.count → i < length (take n q.table) → drop i (statements q) ≡ (get_or (take n q.table) i d).statement ∷ drop (i + 1) (statements q)
+  statements_turn n i d few below =
+      let size = length-take n q.table in
+      rw (get_or-take n q.table i d (omega arith)) (statements_at_lem i d (omega arith) (omega arith))
 
-  pub statements_full : (i : ℕ) → length q.table ≤ i → drop i (statements q) ≡ []
-  statements_full i h = drop_of_length-le (statements q) {i = i} (omega (arith, statements_length))
+  -- and one statement more of those in front
+  pub statements_front : (n i : ℕ) (d : Record) → n ≤ q.count → i < length (take n q.table) → take (i + 1) (statements q) ≡ take i (statements q) ++ ((get_or (take n q.table) i d).statement ∷ [])
+  statements_front n i d few below =
+      let size = length-take n q.table in
+      rw (get_or-take n q.table i d (omega arith)) (statements_more i d (omega arith) (omega arith))
+
+  pub statements_left : (n i : ℕ) → length (statements q) ≤ n → length (take n q.table) ≤ i → drop i (statements q) ≡ []
+  statements_left n i all past = drop_of_length-le (statements q) {i = i} (omega (arith, statements_length, length-take n q.table))
 
   -- the terms of the statements from the index i on, where t terms stand
   abbrev pub terms_from : ℕ → ℕ → ℕ
@@ -70,9 +78,9 @@ module _ (q : Question) where
   unfolding terms_of
   terms_start = refl
 
-  pub terms_turn : (i t : ℕ) (d : Record) → i < q.count → i < length q.table → terms_from i t ≡ terms_from (i + 1) (t + witness (get_or q.table i d).statement)
+  pub terms_turn : (i t : ℕ) (s : Statement) → drop i (statements q) ≡ s ∷ drop (i + 1) (statements q) → terms_from i t ≡ terms_from (i + 1) (t + witness s)
   unfolding witnesses
-  terms_turn i t d below inside = rw (statements_at_lem i d below inside) (omega arith)
+  terms_turn i t s next = rw next (omega arith)
 
   pub terms_end : (i t : ℕ) → drop i (statements q) ≡ [] → terms_from i t ≡ t
   unfolding witnesses

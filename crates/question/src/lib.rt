@@ -6,6 +6,6 @@ mod admissions;
 mod checks;
 mod questions;
 
-pub use admissions::{Admission, admit, may_add};
+pub use admissions::{NotAdmitted, admit, may_add};
 pub use checks::{check, check_names, statement_count, terms};
 pub use questions::{Question, Record};

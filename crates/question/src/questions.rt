@@ -4,11 +4,13 @@ ghost use Rattle.question.specs.Questions.{empty_question};
 
 use statement::{ElementName, Statement};
 
+// A statement of the table. Document 01 names this form: an enum in a record struct, and an array of those records.
 #[derive(Clone, Copy)]
 pub struct Record {
     pub statement: Statement,
 }
 
+// The table is a fixed array with a count beside it, as document 01 has it, and for want of a heap.
 #[derive(Clone, Copy)]
 pub struct Question {
     pub elements: u8,

@@ -7,13 +7,12 @@ use native.Mathlib.Omega.{arith}
 use borrow.Author.Tests.{ltb-false}
 use lib.Dec.{ltb}
 use lib.ListN.{length, drop, length-drop}
-use Rattle.outcome.specs.declared.checks.Check.TheVariants.{Accepted}
 use Rattle.outcome.specs.Refusals.{refusal, bytes_after_end}
-use Rattle.outcome.proofs.CheckLaws.{refused_accepted}
+use Rattle.outcome.proofs.CheckLaws.{refused_ok}
 use Rattle.field.specs.Heads.{end_bytes}
 use Rattle.statement.specs.declared.statements.Statement.{Statement}
 use Rattle.question.specs.declared.questions.Question.{Question}
-use Rattle.question.specs.declared.admissions.Admission.TheVariants.{Admitted}
+use Rattle.std.specs.Prelude.{Ok, Err}
 use Rattle.question.specs.Limits.{max_elements, max_sets, max_statements}
 use Rattle.question.specs.Questions.{question_of, terms_of}
 use Rattle.question.specs.Admissions.{admission}
@@ -22,7 +21,7 @@ use Rattle.question.proofs.BuildLaws.{declaring_of, added_of, terms_of_lem}
 use Rattle.question.proofs.SoundLaws.{Sound, sound_none, sound_more}
 use Rattle.question_file.specs.Bytes.{names_bytes, statement_bytes, statements_bytes, file_bytes}
 use Rattle.question_file.specs.Fields.{Next, More, End, Stop, field_step}
-use Rattle.question_file.specs.Reads.{refused_file, ended_file, follow, read_fields, read_question}
+use Rattle.question_file.specs.Reads.{ended_file, follow, read_fields, read_question}
 use Rattle.question_file.proofs.SaidLaws.{Wrote}
 use Rattle.question_file.proofs.StepLaws.{Went, by_names, by_statement, went, ended}
 use Rattle.question_file.proofs.ReadLaws.{past}
@@ -55,7 +54,7 @@ empty [] h = refl
 empty (x ∷ l) h = absurd (omega arith)
 
 module _ (bytes : List ℕ) where
-  statement_read : (at : ℕ) (q : Question) (place : ℕ) (r : Question) (s : Statement) → ReadTo bytes at q → q.count < max_statements → admission q.elements q.sets (terms_of q) s ≡ Admitted →
+  statement_read : (at : ℕ) (q : Question) (place : ℕ) (r : Question) (s : Statement) → ReadTo bytes at q → q.count < max_statements → admission q.elements q.sets (terms_of q) s ≡ Ok tt →
       Wrote (statement_bytes s) (drop at bytes) at place → r ≡ added q s → ReadTo bytes place r
   statement_read at q place r s k room ok w e =
       let few : length k.ss < max_statements = rw k.made at room in
@@ -106,33 +105,32 @@ module _ (bytes : List ℕ) where
   first_read place r (by_statement s later room ok w e) = absurd (later refl)
 
   -- after 7F nothing is left
-  end_accepted : (place : ℕ) (q : Question) → (ended_file (length bytes) place q).outcome ≡ Accepted → (length bytes ≤ place) × ((ended_file (length bytes) place q).question ≡ q)
-  end_accepted place q e = go (ltb place (length bytes)) refl e
+  end_accepted : (place : ℕ) (q r : Question) → ended_file (length bytes) place q ≡ Ok r → (length bytes ≤ place) × (r ≡ q)
+  end_accepted place q r e = go (ltb place (length bytes)) refl e
     where
-      go : (b : Bool) → ltb place (length bytes) ≡ b → (cond b (refused_file (refusal bytes_after_end place)) (record { outcome = Accepted; question = q })).outcome ≡ Accepted →
-          (length bytes ≤ place) × ((cond b (refused_file (refusal bytes_after_end place)) (record { outcome = Accepted; question = q })).question ≡ q)
-      go true h e = refused_accepted e
-      go false h e = (ltb-false place (length bytes) h, refl)
+      go : (b : Bool) → ltb place (length bytes) ≡ b → cond b (Err (refusal bytes_after_end place)) (Ok q) ≡ Ok r → (length bytes ≤ place) × (r ≡ q)
+      go true h e = refused_ok e
+      go false h e = (ltb-false place (length bytes) h, cc)
 
   -- the fields from a place on
-  read_from : (n at : ℕ) (q : Question) → (at ≡ 0 → ⊥) → ReadTo bytes at q → (read_fields n bytes at q).outcome ≡ Accepted → WholeFile bytes (read_fields n bytes at q).question
+  read_from : (n at : ℕ) (q whole : Question) → (at ≡ 0 → ⊥) → ReadTo bytes at q → read_fields n bytes at q ≡ Ok whole → WholeFile bytes whole
   unfolding read_fields
-  read_from zero at q later k e = refused_accepted e
-  read_from (suc n) at q later k e = go (field_step (drop at bytes) at q) refl e (λ place r l. read_from n place r l)
+  read_from zero at q whole later k e = refused_ok e
+  read_from (suc n) at q whole later k e = go (field_step (drop at bytes) at q) refl e (λ place r l. read_from n place r whole l)
     where
-      go : (x : Next) → field_step (drop at bytes) at q ≡ x → (follow (length bytes) (read_fields n bytes) q x).outcome ≡ Accepted →
-          ((place : ℕ) (r : Question) → (place ≡ 0 → ⊥) → ReadTo bytes place r → (read_fields n bytes place r).outcome ≡ Accepted → WholeFile bytes (read_fields n bytes place r).question) →
-          WholeFile bytes (follow (length bytes) (read_fields n bytes) q x).question
+      go : (x : Next) → field_step (drop at bytes) at q ≡ x → follow (length bytes) (read_fields n bytes) q x ≡ Ok whole →
+          ((place : ℕ) (r : Question) → (place ≡ 0 → ⊥) → ReadTo bytes place r → read_fields n bytes place r ≡ Ok whole → WholeFile bytes whole) →
+          WholeFile bytes whole
       go (More place r) p e on = let w = went_read at q place r later k (went (drop at bytes) at q place r p) in on place r w.1 w.0 e
-      go (End place) p e on = let a = end_accepted place q e in rw a.1 (end_read at q place k (ended (drop at bytes) at q place p).1 a.0)
-      go (Stop r) p e on = refused_accepted e
+      go (End place) p e on = let a = end_accepted place q whole e in rw a.1 (end_read at q place k (ended (drop at bytes) at q place p).1 a.0)
+      go (Stop r) p e on = refused_ok e
 
 -- an accepted file is the file of the question that is read
-pub accepted_file : (bytes : List ℕ) → (read_question bytes).outcome ≡ Accepted → WholeFile bytes (read_question bytes).question
+pub accepted_file : (bytes : List ℕ) (q : Question) → read_question bytes ≡ Ok q → WholeFile bytes q
 unfolding read_fields
-accepted_file bytes e = go (field_step bytes 0 (declaring 0 0)) refl e
+accepted_file bytes q e = go (field_step bytes 0 (declaring 0 0)) refl e
   where
-    go : (x : Next) → field_step bytes 0 (declaring 0 0) ≡ x → (follow (length bytes) (read_fields 65 bytes) (declaring 0 0) x).outcome ≡ Accepted → WholeFile bytes (follow (length bytes) (read_fields 65 bytes) (declaring 0 0) x).question
-    go (More place r) p e = let w = first_read bytes place r (went bytes 0 (declaring 0 0) place r p) in read_from bytes 65 place r w.1 w.0 e
+    go : (x : Next) → field_step bytes 0 (declaring 0 0) ≡ x → follow (length bytes) (read_fields 65 bytes) (declaring 0 0) x ≡ Ok q → WholeFile bytes q
+    go (More place r) p e = let w = first_read bytes place r (went bytes 0 (declaring 0 0) place r p) in read_from bytes 65 place r q w.1 w.0 e
     go (End place) p e = absurd ((ended bytes 0 (declaring 0 0) place p).0 refl)
-    go (Stop r) p e = refused_accepted e
+    go (Stop r) p e = refused_ok e

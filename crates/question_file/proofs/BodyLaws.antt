@@ -10,20 +10,21 @@ use Rattle.statement.specs.declared.statements.Statement.{Statement}
 use Rattle.statement.specs.declared.statements.Statement.TheVariants.{ElementsEqual, ElementsDiffer, In, NotIn, SetsEqual, SetsDiffer, Empty, Single, Union, Intersection, Difference}
 use Rattle.statement.specs.Statements.{tag_of}
 use Rattle.field.specs.declared.tags.File.TheVariants.{Question as QuestionFile}
+use Rattle.std.proofs.Common.{Option, Some}
 use Rattle.field.specs.declared.tags.BodyLength.{BodyLength}
 use Rattle.field.specs.declared.tags.BodyLength.TheVariants.{Fixed}
 use Rattle.field.specs.Tags.{field_table, length_of, is_known}
 use Rattle.field.proofs.TagLaws.{rule, AllKnown, by_table, ◌&◌}
-use Rattle.question_file.specs.declared.bodies.Made.TheVariants.{Stated}
+use Rattle.std.specs.Prelude.{Some}
 use Rattle.question_file.specs.Bodies.{element_name, set_name, body_of, statement_of}
 
 -- what the tables say of a statement's field
 pub record Field (s : Statement) : Type 0 where
-  pub listed : length_of QuestionFile (tag_of s) ≡ Fixed (length (body_of s))
+  pub listed : length_of QuestionFile (tag_of s) ≡ Some (Fixed (length (body_of s)))
   pub not_names : eqb (tag_of s) 0x01 ≡ false
   pub not_end : eqb (tag_of s) 0x7f ≡ false
   pub few : length (body_of s) ≤ 3
-  pub made : (rest : List ℕ) → statement_of (tag_of s) (get_or (body_of s ++ rest) 0 0) (get_or (body_of s ++ rest) 1 0) (get_or (body_of s ++ rest) 2 0) ≡ Stated s
+  pub made : (rest : List ℕ) → statement_of (tag_of s) (get_or (body_of s ++ rest) 0 0) (get_or (body_of s ++ rest) 1 0) (get_or (body_of s ++ rest) 2 0) ≡ Some s
 
 pub field : (s : Statement) → Field s
 unfolding statement_of
@@ -42,15 +43,15 @@ field (Difference x y z) = record { listed = rule QuestionFile _; not_names = re
 -- a tag with a body of n bytes, of which the first are a, b, c, makes a statement with that tag and body
 pub record Makes (tag n a b c : ℕ) : Type 0 where
   pub statement : Statement
-  pub made : statement_of tag a b c ≡ Stated statement
+  pub made : statement_of tag a b c ≡ Some statement
   pub tagged : tag_of statement ≡ tag
   pub body : body_of statement ≡ take n (a ∷ b ∷ c ∷ [])
 
 -- an entry that a question file knows
-pub data Known (tag : ℕ) (length : BodyLength) : Type 0 where
-  names : tag ≡ 0x01 → length ≡ Fixed 2 → Known tag length
-  end : tag ≡ 0x7f → length ≡ Fixed 0 → Known tag length
-  stated : (n : ℕ) → length ≡ Fixed n → n ≤ 3 → eqb tag 0x01 ≡ false → eqb tag 0x7f ≡ false → ((a b c : ℕ) → Makes tag n a b c) → Known tag length
+pub data Known (tag : ℕ) (length : Option BodyLength) : Type 0 where
+  names : tag ≡ 0x01 → length ≡ Some (Fixed 2) → Known tag length
+  end : tag ≡ 0x7f → length ≡ Some (Fixed 0) → Known tag length
+  stated : (n : ℕ) → length ≡ Some (Fixed n) → n ≤ 3 → eqb tag 0x01 ≡ false → eqb tag 0x7f ≡ false → ((a b c : ℕ) → Makes tag n a b c) → Known tag length
 
 all_known : AllKnown QuestionFile Known field_table
 unfolding statement_of

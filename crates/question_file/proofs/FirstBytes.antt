@@ -10,7 +10,8 @@ use lib.Seq.{drop-append-le}
 use Rattle.field.specs.declared.tags.File.TheVariants.{Question as QuestionFile}
 use Rattle.field.specs.declared.tags.BodyLength.TheVariants.{Fixed}
 use Rattle.field.specs.declared.frames.Frame.{Frame}
-use Rattle.field.specs.declared.frames.Frame.TheVariants.{Sound, Refused as BadFrame}
+use Rattle.std.proofs.Common.{Some, Result, Ok, Err}
+use Rattle.outcome.specs.declared.refusals.Refusal.{Refusal}
 use Rattle.field.specs.Tags.{length_of, is_known, is_allowed}
 use Rattle.field.specs.Heads.{head_of}
 use Rattle.field.specs.Frames.{framed, frame_of}
@@ -27,7 +28,7 @@ use Rattle.question_file.proofs.RefusalLaws.{Early, early_first, early_next}
 allowed_short : (tag n : ℕ) → is_known (length_of QuestionFile tag) ≡ true → is_allowed (length_of QuestionFile tag) 0 n ≡ true → n ≤ 3
 allowed_short tag n k a = go (known tag k)
   where
-    is : (m : ℕ) → length_of QuestionFile tag ≡ Fixed m → n ≡ m
+    is : (m : ℕ) → length_of QuestionFile tag ≡ Some (Fixed m) → n ≡ m
     is m l = eqb-true n m (sym (ap (λ x. is_allowed x 0 n) l) ∙ a)
 
     go : Known tag (length_of QuestionFile tag) → n ≤ 3
@@ -36,13 +37,13 @@ allowed_short tag n k a = go (known tag k)
     go (stated m l few x y makes) = omega (arith, is m l)
 
 -- so it doesn't matter how many bytes more than three are left, nor what stands behind the sixth
-left_same : (at tag n l m : ℕ) → 3 ≤ l → 3 ≤ m → framed QuestionFile (due_at at) 0 tag n l ≡ framed QuestionFile (due_at at) 0 tag n m
-left_same at tag n l m h k = framed_same QuestionFile (due_at at) 0 tag n l m (λ p a. let few = allowed_short tag n p a in (omega arith, omega arith))
+left_same : (at tag n l m : ℕ) → 3 ≤ l → 3 ≤ m → framed QuestionFile (due_at at) 0 at tag n l ≡ framed QuestionFile (due_at at) 0 at tag n m
+left_same at tag n l m h k = framed_same QuestionFile (due_at at) 0 at tag n l m (λ p a. let few = allowed_short tag n p a in (omega arith, omega arith))
 
-frame_same : (f : Frame) (a b c d e g : ℕ) (x y : List ℕ) (at : ℕ) → framed_said f (a ∷ b ∷ c ∷ d ∷ e ∷ g ∷ x) at ≡ framed_said f (a ∷ b ∷ c ∷ d ∷ e ∷ g ∷ y) at
+frame_same : (f : Result Frame Refusal) (a b c d e g : ℕ) (x y : List ℕ) (at : ℕ) → framed_said f (a ∷ b ∷ c ∷ d ∷ e ∷ g ∷ x) at ≡ framed_said f (a ∷ b ∷ c ∷ d ∷ e ∷ g ∷ y) at
 unfolding said_by
-frame_same (BadFrame number) a b c d e g x y at = refl
-frame_same (Sound tag n) a b c d e g x y at = refl
+frame_same (Err r) a b c d e g x y at = refl
+frame_same (Ok f) a b c d e g x y at = refl
 
 -- a field by its first six bytes
 said_same : (rest later : List ℕ) (at : ℕ) → 6 ≤ length rest → said at (rest ++ later) ≡ said at rest
@@ -55,7 +56,7 @@ said_same (a ∷ b ∷ c ∷ d ∷ []) later at h = absurd (omega arith)
 said_same (a ∷ b ∷ c ∷ d ∷ e ∷ []) later at h = absurd (omega arith)
 said_same (a ∷ b ∷ c ∷ d ∷ e ∷ g ∷ rest) later at h =
     ap (λ f. framed_said f (a ∷ b ∷ c ∷ d ∷ e ∷ g ∷ (rest ++ later)) at) (left_same at a (b * 256 + c) (length (a ∷ b ∷ c ∷ d ∷ e ∷ g ∷ (rest ++ later)) - 3) (length (a ∷ b ∷ c ∷ d ∷ e ∷ g ∷ rest) - 3) (omega arith) (omega arith))
-    ∙ frame_same (framed QuestionFile (due_at at) 0 a (b * 256 + c) (length (a ∷ b ∷ c ∷ d ∷ e ∷ g ∷ rest) - 3)) a b c d e g (rest ++ later) rest at
+    ∙ frame_same (framed QuestionFile (due_at at) 0 at a (b * 256 + c) (length (a ∷ b ∷ c ∷ d ∷ e ∷ g ∷ rest) - 3)) a b c d e g (rest ++ later) rest at
 
 module _ (bytes later : List ℕ) (long : 395 ≤ length bytes) where
   step_same : (at : ℕ) (q : Question) → Early at q → field_step (drop at (bytes ++ later)) at q ≡ field_step (drop at bytes) at q

@@ -5,10 +5,11 @@ use mathlib.Core.List.{List, [], ◌∷◌, ◌++◌, append-nil, append_assoc}
 use native.Mathlib.Omega.{arith}
 use borrow.Author.Tests.{le-ltb}
 use lib.ListN.{length, drop, length-append, length-drop}
-use Rattle.outcome.specs.declared.checks.Check.TheVariants.{Accepted}
 use Rattle.field.specs.Heads.{end_bytes}
 use Rattle.statement.specs.declared.statements.Statement.{Statement}
-use Rattle.question.specs.declared.admissions.Admission.TheVariants.{Admitted}
+use Rattle.std.specs.Prelude.{Ok, Result}
+use Rattle.outcome.specs.declared.refusals.Refusal.{Refusal}
+use Rattle.question.specs.declared.questions.Question.{Question}
 use Rattle.question.specs.Limits.{max_statements}
 use Rattle.question.specs.Questions.{question_of}
 use Rattle.statement.specs.Statements.{witness, witnesses}
@@ -18,7 +19,6 @@ use Rattle.question.specs.Builds.{declaring}
 use Rattle.question.proofs.StatementsLaws.{witnesses_snoc}
 use Rattle.question.proofs.BuildLaws.{declaring_of, added_of, terms_of_lem}
 use Rattle.question.proofs.SoundLaws.{Sound, admitted_first}
-use Rattle.question_file.specs.declared.reads.ReadQuestion.{ReadQuestion}
 use Rattle.question_file.specs.Bodies.{body_of}
 use Rattle.question_file.specs.Bytes.{names_bytes, statement_bytes, statements_bytes, file_bytes}
 use Rattle.question_file.specs.Fields.{More, field_step}
@@ -28,8 +28,8 @@ use Rattle.question_file.proofs.ReadLaws.{past, go_on, stop_end}
 
 -- the statements still to come, where some are done
 module _ (bytes : List ℕ) (E S : ℕ) where
-  abbrev whole : List Statement → ReadQuestion
-  whole ss = record { outcome = Accepted; question = question_of E S ss }
+  abbrev whole : List Statement → Result Question Refusal
+  whole ss = Ok (question_of E S ss)
 
   at_end : (done : List Statement) (at n m : ℕ) → n ≡ suc m → (at ≡ 0 → ⊥) → drop at bytes ≡ end_bytes → read_fields n bytes at (question_of E S done) ≡ whole done
   at_end done at n m e later rest =
@@ -41,7 +41,7 @@ module _ (bytes : List ℕ) (E S : ℕ) where
     abbrev next : ℕ
     next = at + (3 + length (body_of s))
 
-    one_more : (n m : ℕ) → n ≡ suc m → length done < max_statements → admission E S (E + witnesses done) s ≡ Admitted →
+    one_more : (n m : ℕ) → n ≡ suc m → length done < max_statements → admission E S (E + witnesses done) s ≡ Ok tt →
         read_fields n bytes at (question_of E S done) ≡ read_fields m bytes next (question_of E S (done ++ (s ∷ [])))
     one_more n m e few ok =
         go_on bytes at (question_of E S done) n m e next (question_of E S (done ++ (s ∷ [])))
@@ -50,7 +50,7 @@ module _ (bytes : List ℕ) (E S : ℕ) where
         ∙ ap (More next) (added_of E S done s few))
 
   read_on : (todo done : List Statement) (at n i : ℕ) → (at ≡ 0 → ⊥) → drop at bytes ≡ statements_bytes todo ++ end_bytes → length done + length todo ≤ max_statements → length todo < n →
-      statements_checked E S i (E + witnesses done) todo ≡ Accepted → read_fields n bytes at (question_of E S done) ≡ whole (done ++ todo)
+      statements_checked E S i (E + witnesses done) todo ≡ Ok tt → read_fields n bytes at (question_of E S done) ≡ whole (done ++ todo)
   unfolding statements_bytes
   read_on [] done at n i later rest room enough ok = at_end done at n (n - 1) (omega arith) later rest ∙ ap whole (sym (append-nil done))
   read_on (s ∷ todo) done at n i later rest room enough ok =
@@ -62,7 +62,7 @@ module _ (bytes : List ℕ) (E S : ℕ) where
       ∙ ap whole (append_assoc done (s ∷ []) todo)
 
 -- the file of an accepted question
-pub file_read_back : (E S : ℕ) (ss : List Statement) → Sound E S ss → read_question (file_bytes E S ss) ≡ record { outcome = Accepted; question = question_of E S ss }
+pub file_read_back : (E S : ℕ) (ss : List Statement) → Sound E S ss → read_question (file_bytes E S ss) ≡ Ok (question_of E S ss)
 unfolding file_bytes witnesses
 file_read_back E S ss k =
     let bytes : List ℕ = names_bytes E S ++ (statements_bytes ss ++ end_bytes) in

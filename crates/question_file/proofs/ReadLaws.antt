@@ -1,4 +1,5 @@
 -- The walk over the fields: each field that goes on uses up one of the 66 and lies further in the data, so the walk ends, and no more fields are ever needed.
+use Rattle.std.proofs.Common.{Ok, Err}
 use Prim.Native.Nat.{ℕ, zero, suc, ◌+◌, ◌-◌, ◌≤◌, ◌<◌}
 use mathlib.Core.Path.{◌≡◌, refl, sym, ap, ◌∙◌}
 use mathlib.Core.List.{List}
@@ -7,13 +8,12 @@ use borrow.Author.Tests.{lt-ltb, le-ltb}
 use lib.ListN.{length, drop, length-drop, length-append}
 use lib.Seq.{drop-append_seam, drop-drop}
 use Rattle.outcome.specs.declared.refusals.Refusal.{Refusal}
-use Rattle.outcome.specs.declared.checks.Check.TheVariants.{Accepted}
 use Rattle.outcome.specs.Refusals.{refusal, bytes_after_end}
 use Rattle.question.specs.declared.questions.Question.{Question}
 use Rattle.question.specs.Limits.{max_statements}
 use Rattle.question.specs.Builds.{declaring}
 use Rattle.question_file.specs.Fields.{Next, More, End, Stop, field_step}
-use Rattle.question_file.specs.Reads.{refused_file, ended_file, read_fields, max_fields, read_question}
+use Rattle.question_file.specs.Reads.{ended_file, read_fields, max_fields, read_question}
 use Rattle.question_file.proofs.SaidLaws.{Wrote}
 use Rattle.question_file.proofs.StepLaws.{Went, by_names, by_statement, went}
 
@@ -37,7 +37,7 @@ module _ (bytes : List ℕ) (at : ℕ) (q : Question) (n m : ℕ) (e : n ≡ suc
   unfolding read_fields
   stop_end place h = rw (e, h)
 
-  pub stop_refused : (r : Refusal) → field_step (drop at bytes) at q ≡ Stop r → read_fields n bytes at q ≡ refused_file r
+  pub stop_refused : (r : Refusal) → field_step (drop at bytes) at q ≡ Stop r → read_fields n bytes at q ≡ Err r
   unfolding read_fields
   stop_refused r h = rw (e, h)
 
@@ -120,11 +120,11 @@ module _ (bytes : List ℕ) (at : ℕ) (q : Question) (k : Reached bytes at q) w
   end_reached : (place : ℕ) → field_step (drop at bytes) at q ≡ End place → read_question bytes ≡ ended_file (length bytes) place q
   end_reached place h = k.same ∙ stop_end bytes at q k.fields (k.fields - 1) one_less place h
 
-  pub extra_reached : (place : ℕ) → field_step (drop at bytes) at q ≡ End place → place < length bytes → read_question bytes ≡ refused_file (refusal bytes_after_end place)
+  pub extra_reached : (place : ℕ) → field_step (drop at bytes) at q ≡ End place → place < length bytes → read_question bytes ≡ Err (refusal bytes_after_end place)
   extra_reached place h l = end_reached place h ∙ rw (lt-ltb place (length bytes) l)
 
-  pub whole_reached : (place : ℕ) → field_step (drop at bytes) at q ≡ End place → length bytes ≤ place → read_question bytes ≡ record { outcome = Accepted; question = q }
+  pub whole_reached : (place : ℕ) → field_step (drop at bytes) at q ≡ End place → length bytes ≤ place → read_question bytes ≡ Ok q
   whole_reached place h l = end_reached place h ∙ rw (le-ltb place (length bytes) l)
 
-  pub stop_reached : (r : Refusal) → field_step (drop at bytes) at q ≡ Stop r → read_question bytes ≡ refused_file r
+  pub stop_reached : (r : Refusal) → field_step (drop at bytes) at q ≡ Stop r → read_question bytes ≡ Err r
   stop_reached r h = k.same ∙ stop_refused bytes at q k.fields (k.fields - 1) one_less r h

@@ -13,19 +13,19 @@ use Rattle.field.specs.declared.tags.File.TheVariants.{Question as QuestionFile}
 use Rattle.field.specs.declared.tags.BodyLength.TheVariants.{Fixed}
 use Rattle.field.specs.declared.frames.Due.TheVariants.{Only, AllBut}
 use Rattle.field.specs.declared.frames.Frame.{Frame}
-use Rattle.field.specs.declared.frames.Frame.TheVariants.{Sound, Refused as BadFrame}
+use Rattle.std.proofs.Common.{Some, Result, Ok, Err}
+use Rattle.outcome.specs.declared.refusals.Refusal.{Refusal}
 use Rattle.field.specs.Tags.{length_of, is_allowed}
 use Rattle.field.specs.Heads.{field_bytes, end_bytes}
 use Rattle.field.specs.Frames.{is_in_place, frame_of}
 use Rattle.field.proofs.TagLaws.{rule, fixed}
 use Rattle.field.proofs.HeadLaws.{head_read}
-use Rattle.field.proofs.FrameLaws.{IsSound, sound, written_sound, frame_number}
+use Rattle.field.proofs.FrameLaws.{IsSound, sound, written_sound, frame_refused}
 use Rattle.statement.specs.declared.statements.Statement.{Statement}
 use Rattle.statement.specs.Statements.{tag_of}
-use Rattle.question_file.specs.declared.bodies.Made.{Made}
-use Rattle.question_file.specs.declared.bodies.Made.TheVariants.{Stated as StatementMade}
+use Rattle.std.specs.Prelude.{Option, Some}
 use Rattle.question_file.specs.declared.fields.Said.{Said}
-use Rattle.question_file.specs.declared.fields.Said.TheVariants.{Names, Stated, Ended, Refused}
+use Rattle.question_file.specs.declared.fields.Said.TheVariants.{Names, Stated, Ended}
 use Rattle.question_file.specs.Bodies.{body_of, statement_of}
 use Rattle.question_file.specs.Bytes.{names_bytes, statement_bytes}
 use Rattle.question_file.specs.Fields.{due_at, made_said, said_by, framed_said, said}
@@ -38,11 +38,11 @@ pub record Wrote (bytes rest : List ℕ) (at next : ℕ) : Type 0 where
   pub behind : next ≡ at + length bytes
 
 -- what each thing that is said tells of the bytes from the place `at` on
-abbrev pub Says : List ℕ → ℕ → Said → Type 0
-Says rest at (Names E S next) = (at ≡ 0) × Wrote (names_bytes E S) rest at next
-Says rest at (Stated s next) = (at ≡ 0 → ⊥) × Wrote (statement_bytes s) rest at next
-Says rest at (Ended next) = (at ≡ 0 → ⊥) × Wrote end_bytes rest at next
-Says rest at (Refused number) = (1 ≤ number) × (number ≤ 4)
+abbrev pub Says : List ℕ → ℕ → Result Said Refusal → Type 0
+Says rest at (Ok (Names E S next)) = (at ≡ 0) × Wrote (names_bytes E S) rest at next
+Says rest at (Ok (Stated s next)) = (at ≡ 0 → ⊥) × Wrote (statement_bytes s) rest at next
+Says rest at (Ok (Ended next)) = (at ≡ 0 → ⊥) × Wrote end_bytes rest at next
+Says rest at (Err r) = (1 ≤ r.number) × (r.number ≤ 4) × (r.place ≡ at)
 
 -- the first bytes of a body, one by one
 first_bytes : (n : ℕ) (body : List ℕ) → n ≤ 3 → n ≤ length body → take n (get_or body 0 0 ∷ get_or body 1 0 ∷ get_or body 2 0 ∷ []) ≡ take n body
@@ -73,16 +73,16 @@ later_place : (at tag : ℕ) → (at ≡ 0 → ⊥) → eqb tag 0x01 ≡ false �
 later_place at tag h e = rw (ne_eqb at 0 h, e)
 
 -- what a tag says
-module _ (tag : ℕ) (body : List ℕ) (next : ℕ) where
-  by_names : tag ≡ 0x01 → said_by tag body next ≡ Names (get_or body 0 0) (get_or body 1 0) next
+module _ (tag : ℕ) (body : List ℕ) (at next : ℕ) where
+  by_names : tag ≡ 0x01 → said_by tag body at next ≡ Ok (Names (get_or body 0 0) (get_or body 1 0) next)
   unfolding said_by
   by_names t = rw t
 
-  by_end : tag ≡ 0x7f → said_by tag body next ≡ Ended next
+  by_end : tag ≡ 0x7f → said_by tag body at next ≡ Ok (Ended next)
   unfolding said_by
   by_end t = rw t
 
-  by_made : (m : Made) → eqb tag 0x01 ≡ false → eqb tag 0x7f ≡ false → statement_of tag (get_or body 0 0) (get_or body 1 0) (get_or body 2 0) ≡ m → said_by tag body next ≡ made_said m next
+  by_made : (m : Option Statement) → eqb tag 0x01 ≡ false → eqb tag 0x7f ≡ false → statement_of tag (get_or body 0 0) (get_or body 1 0) (get_or body 2 0) ≡ m → said_by tag body at next ≡ made_said m at next
   unfolding said_by
   by_made m a b e = rw (a, b, e)
 
@@ -97,7 +97,7 @@ module _ (rest : List ℕ) (at tag n : ℕ) (f : IsSound QuestionFile (due_at at
   long : n ≤ length body
   long = simp length-drop (omega (arith, f.there))
 
-  due : (m : ℕ) → length_of QuestionFile tag ≡ Fixed m → n ≡ m
+  due : (m : ℕ) → length_of QuestionFile tag ≡ Some (Fixed m) → n ≡ m
   due m l = eqb-true n m (sym (ap (λ x. is_allowed x 0 n) l) ∙ f.allowed)
 
   as_written : (t : ℕ) (b : List ℕ) → n ≤ 3 → tag ≡ t → take n three ≡ b → n ≡ length b → Wrote (field_bytes t b) rest at (at + (3 + n))
@@ -108,46 +108,46 @@ module _ (rest : List ℕ) (at tag n : ℕ) (f : IsSound QuestionFile (due_at at
         behind = omega (arith, m);
       }
 
-  says_sound : Known tag (length_of QuestionFile tag) → Says rest at (said_by tag body (at + (3 + n)))
+  says_sound : Known tag (length_of QuestionFile tag) → Says rest at (said_by tag body at (at + (3 + n)))
   says_sound (names t l) =
       let m : n ≡ 2 = due 2 l in
-      subst (Says rest at) (sym (by_names tag body (at + (3 + n)) t))
+      subst (Says rest at) (sym (by_names tag body at (at + (3 + n)) t))
       (is_first at (subst (λ i. is_in_place (due_at at) i ≡ true) t f.in_place), as_written 0x01 (get_or body 0 0 ∷ get_or body 1 0 ∷ []) (omega arith) t (ap (λ i. take i three) m) m)
   says_sound (end t l) =
       let m : n ≡ 0 = due 0 l in
-      subst (Says rest at) (sym (by_end tag body (at + (3 + n)) t))
+      subst (Says rest at) (sym (by_end tag body at (at + (3 + n)) t))
       (is_later at tag (ap (λ i. eqb i 0x01) t) f.in_place, as_written 0x7f [] (omega arith) t (ap (λ i. take i three) m) m)
   says_sound (stated m l few a b makes) =
       let made = makes (get_or body 0 0) (get_or body 1 0) (get_or body 2 0) in
       let same : take n three ≡ body_of made.statement = ap (λ i. take i three) (due m l) ∙ sym made.body in
       let size : n ≡ length (body_of made.statement) = sym (length-take-le n three (omega (arith, due m l))) ∙ ap length same in
-      subst (Says rest at) (sym (by_made tag body (at + (3 + n)) (StatementMade made.statement) a b made.made))
+      subst (Says rest at) (sym (by_made tag body at (at + (3 + n)) (Some made.statement) a b made.made))
       (is_later at tag a f.in_place, as_written (tag_of made.statement) (body_of made.statement) (omega (arith, due m l)) (sym made.tagged) same size)
 
 -- what is said was written so
 pub says : (rest : List ℕ) (at : ℕ) → Says rest at (said at rest)
 unfolding said
-says rest at = go (frame_of QuestionFile (due_at at) 0 rest) refl
+says rest at = go (frame_of QuestionFile (due_at at) 0 at rest) refl
   where
-    go : (x : Frame) → frame_of QuestionFile (due_at at) 0 rest ≡ x → Says rest at (framed_said x rest at)
-    go (BadFrame number) p = frame_number QuestionFile (due_at at) 0 rest number p
-    go (Sound tag n) p = let f = sound QuestionFile (due_at at) 0 rest tag n p in says_sound rest at tag n f (known tag f.known)
+    go : (x : Result Frame Refusal) → frame_of QuestionFile (due_at at) 0 at rest ≡ x → Says rest at (framed_said x rest at)
+    go (Err r) p = frame_refused QuestionFile (due_at at) 0 at rest r p
+    go (Ok x) p = let f = sound QuestionFile (due_at at) 0 at rest x.tag x.length p in says_sound rest at x.tag x.length f (known x.tag f.known)
 
 -- what was written is said
 module _ (tag : ℕ) (body rest : List ℕ) (at : ℕ) where
-  written_said : length_of QuestionFile tag ≡ Fixed (length body) → is_in_place (due_at at) tag ≡ true → said at (field_bytes tag body ++ rest) ≡ said_by tag (body ++ rest) (at + (3 + length body))
+  written_said : length_of QuestionFile tag ≡ Some (Fixed (length body)) → is_in_place (due_at at) tag ≡ true → said at (field_bytes tag body ++ rest) ≡ said_by tag (body ++ rest) at (at + (3 + length body))
   unfolding said
-  written_said l p = ap (λ f. framed_said f (field_bytes tag body ++ rest) at) (written_sound QuestionFile (due_at at) 0 tag body rest (fixed QuestionFile tag 0 (length body) l) p)
+  written_said l p = ap (λ f. framed_said f (field_bytes tag body ++ rest) at) (written_sound QuestionFile (due_at at) 0 at tag body rest (fixed QuestionFile tag 0 (length body) l) p)
 
-pub names_said : (E S : ℕ) (rest : List ℕ) → said 0 (names_bytes E S ++ rest) ≡ Names E S 5
+pub names_said : (E S : ℕ) (rest : List ℕ) → said 0 (names_bytes E S ++ rest) ≡ Ok (Names E S 5)
 unfolding said_by
 names_said E S rest = written_said 0x01 (E ∷ S ∷ []) rest 0 (rule QuestionFile _) refl
 
-pub statement_said : (s : Statement) (rest : List ℕ) (at : ℕ) → (at ≡ 0 → ⊥) → said at (statement_bytes s ++ rest) ≡ Stated s (at + (3 + length (body_of s)))
+pub statement_said : (s : Statement) (rest : List ℕ) (at : ℕ) → (at ≡ 0 → ⊥) → said at (statement_bytes s ++ rest) ≡ Ok (Stated s (at + (3 + length (body_of s))))
 statement_said s rest at h =
     let f = field s in
-    written_said (tag_of s) (body_of s) rest at f.listed (later_place at (tag_of s) h f.not_names) ∙ by_made (tag_of s) (body_of s ++ rest) _ (StatementMade s) f.not_names f.not_end (f.made rest)
+    written_said (tag_of s) (body_of s) rest at f.listed (later_place at (tag_of s) h f.not_names) ∙ by_made (tag_of s) (body_of s ++ rest) at _ (Some s) f.not_names f.not_end (f.made rest)
 
-pub end_said : (rest : List ℕ) (at : ℕ) → (at ≡ 0 → ⊥) → said at (end_bytes ++ rest) ≡ Ended (at + 3)
+pub end_said : (rest : List ℕ) (at : ℕ) → (at ≡ 0 → ⊥) → said at (end_bytes ++ rest) ≡ Ok (Ended (at + 3))
 unfolding said_by
 end_said rest at h = written_said 0x7f [] rest at (rule QuestionFile _) (later_place at 0x7f h refl)

@@ -9,7 +9,7 @@ use Rattle.statement.specs.declared.statements.Statement.{Statement}
 use Rattle.question.specs.declared.questions.Record.{Record}
 use Rattle.question.specs.declared.questions.Question.{Question}
 use Rattle.question.specs.Questions.{statements}
-use Rattle.question.proofs.StatementsLaws.{statements_at_lem, statements_end}
+use Rattle.question.proofs.StatementsLaws.{statements_length, statements_turn, statements_left}
 use Rattle.question_file.specs.Bodies.{body_of, longest_body}
 use Rattle.outcome.specs.Padded.{padded}
 use Rattle.field.specs.declared.tags.File.TheVariants.{Question as QuestionFile}
@@ -24,13 +24,13 @@ use Rattle.question_file.specs.Bytes.{statement_bytes, statements_bytes, file_by
 abbrev pub bytes_from : Question → ℕ → List ℕ
 bytes_from q i = statements_bytes (drop i (statements q))
 
-pub bytes_turn : (q : Question) (i : ℕ) (d : Record) → i < q.count → i < length q.table → bytes_from q i ≡ statement_bytes (get_or q.table i d).statement ++ bytes_from q (i + 1)
+pub bytes_turn : (q : Question) (i : ℕ) (d : Record) → i < length (take q.count q.table) → bytes_from q i ≡ statement_bytes (get_or (take q.count q.table) i d).statement ++ bytes_from q (i + 1)
 unfolding statements_bytes
-bytes_turn q i d below inside = rw (statements_at_lem q i d below inside)
+bytes_turn q i d below = rw (statements_turn q q.count i d (omega arith) below)
 
-pub bytes_end : (q : Question) (i : ℕ) → q.count ≤ i → bytes_from q i ≡ []
+pub bytes_end : (q : Question) (i : ℕ) → length (take q.count q.table) ≤ i → bytes_from q i ≡ []
 unfolding statements_bytes
-bytes_end q i h = rw (statements_end q i h)
+bytes_end q i past = rw (statements_left q q.count i (omega (arith, statements_length q)) past)
 
 -- the fields of a file have the lengths of the table
 pub names_length : field_length QuestionFile 0x01 0 ≡ 5

@@ -1,12 +1,10 @@
 -- A statement and the body of its field, one byte a name, after the table of statements of document 01.
-use Rattle.std.specs.Prelude.{ℕ, cond, List, map, eqb}
+use Rattle.std.specs.Prelude.{ℕ, cond, List, map, eqb, Option, Some, None}
 use Rattle.statement.specs.declared.names.ElementName.{ElementName}
 use Rattle.statement.specs.declared.names.SetName.{SetName}
 use Rattle.statement.specs.declared.statements.Statement.{Statement}
 use Rattle.statement.specs.declared.statements.Statement.TheVariants.{ElementsEqual, ElementsDiffer, In, NotIn, SetsEqual, SetsDiffer, Empty, Single, Union, Intersection, Difference}
 use Rattle.statement.specs.Statements.{Name, element, set, names_of}
-use Rattle.question_file.specs.declared.bodies.Made.{Made}
-use Rattle.question_file.specs.declared.bodies.Made.TheVariants.{Stated, NotStated}
 
 -- a byte as a name of each sort, and a name as a byte
 abbrev pub element_name : ℕ → ElementName
@@ -27,18 +25,18 @@ body_of s = map name_byte (names_of s)
 abbrev pub longest_body : ℕ
 longest_body = 3
 
--- the statement of a tag whose body begins with the bytes a, b, c
-unfoldable pub statement_of : ℕ → ℕ → ℕ → ℕ → Made
+-- the statement of a tag whose body begins with the bytes a, b, c, if the tag is a statement's
+unfoldable pub statement_of : ℕ → ℕ → ℕ → ℕ → Option Statement
 statement_of tag a b c =
-    cond (eqb tag 0x10) (Stated (ElementsEqual (element_name a) (element_name b)))
-    (cond (eqb tag 0x11) (Stated (ElementsDiffer (element_name a) (element_name b)))
-    (cond (eqb tag 0x12) (Stated (In (element_name a) (set_name b)))
-    (cond (eqb tag 0x13) (Stated (NotIn (element_name a) (set_name b)))
-    (cond (eqb tag 0x20) (Stated (SetsEqual (set_name a) (set_name b)))
-    (cond (eqb tag 0x21) (Stated (SetsDiffer (set_name a) (set_name b)))
-    (cond (eqb tag 0x22) (Stated (Empty (set_name a)))
-    (cond (eqb tag 0x23) (Stated (Single (set_name a) (element_name b)))
-    (cond (eqb tag 0x30) (Stated (Union (set_name a) (set_name b) (set_name c)))
-    (cond (eqb tag 0x31) (Stated (Intersection (set_name a) (set_name b) (set_name c)))
-    (cond (eqb tag 0x32) (Stated (Difference (set_name a) (set_name b) (set_name c)))
-    NotStated))))))))))
+    cond (eqb tag 0x10) (Some (ElementsEqual (element_name a) (element_name b)))
+    (cond (eqb tag 0x11) (Some (ElementsDiffer (element_name a) (element_name b)))
+    (cond (eqb tag 0x12) (Some (In (element_name a) (set_name b)))
+    (cond (eqb tag 0x13) (Some (NotIn (element_name a) (set_name b)))
+    (cond (eqb tag 0x20) (Some (SetsEqual (set_name a) (set_name b)))
+    (cond (eqb tag 0x21) (Some (SetsDiffer (set_name a) (set_name b)))
+    (cond (eqb tag 0x22) (Some (Empty (set_name a)))
+    (cond (eqb tag 0x23) (Some (Single (set_name a) (element_name b)))
+    (cond (eqb tag 0x30) (Some (Union (set_name a) (set_name b) (set_name c)))
+    (cond (eqb tag 0x31) (Some (Intersection (set_name a) (set_name b) (set_name c)))
+    (cond (eqb tag 0x32) (Some (Difference (set_name a) (set_name b) (set_name c)))
+    None))))))))))

@@ -3,7 +3,7 @@ use Rattle.std.specs.Prelude.{ℕ, List}
 use Rattle.question.specs.declared.questions.Question.{Question}
 use Rattle.outcome.specs.Writes.{fitted, fitted_over, checked_then, checked_over}
 use Rattle.question.specs.Checks.{checked}
-use Rattle.outcome.specs.declared.writes.Written.{Written}
+use Rattle.outcome.specs.Writes.{Written}
 use Rattle.question_file.specs.Bytes.{question_bytes}
 
 -- the answer of the writer to a question, where the buffer has so many bytes: the refusals of the table, then 10

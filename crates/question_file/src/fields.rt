@@ -2,8 +2,8 @@
 ghost use Rattle.std.specs.Prelude.{◌≡◌, ◌+◌, ◌≤◌, length, drop};
 ghost use Rattle.question_file.specs.Fields.{due_at, said_by, said};
 
-use crate::bodies::{Made, statement_of};
-use field::{Due, File, Frame, byte_at, frame_at};
+use crate::bodies::statement_of;
+use field::{Due, File, byte_at, frame_at};
 use outcome::Refusal;
 use statement::Statement;
 
@@ -15,8 +15,6 @@ pub enum Said {
     Stated(Statement, usize),
     // The field is 7F: the place behind it.
     Ended(usize),
-    // The number of the refusal.
-    Refused(u8),
 }
 
 // 01 stands first, and nowhere else.
@@ -24,38 +22,36 @@ fn due_at(at: usize) -> Due
     ensures { result ≡ due_at at }
 {
     if at == 0 {
-        return Due::Only(0x01);
+        Due::Only(0x01)
+    } else {
+        Due::AllBut(0x01)
     }
-    Due::AllBut(0x01)
 }
 
 // A field whose frame is sound, by its tag.
-fn say(bytes: &[u8], at: usize, tag: u8, n: usize) -> Said
+#[tactic(auto, unfolding(crate::specs::Fields::said_by))]
+fn say(bytes: &[u8], at: usize, tag: u8, n: usize) -> Result<Said, Refusal>
     requires { at + (3 + n) ≤ length bytes.now }
-    ensures { result ≡ said_by tag (drop 3 (drop at bytes.now)) (at + (3 + n)) }
+    ensures { result ≡ said_by tag (drop 3 (drop at bytes.now)) at (at + (3 + n)) }
 {
     let next = at + (3 + n);
     let a = byte_at(bytes, at + 3);
     let b = byte_at(bytes, at + 4);
     let c = byte_at(bytes, at + 5);
-    if tag == 0x01 {
-        return Said::Names(a, b, next);
-    }
-    if tag == 0x7f {
-        return Said::Ended(next);
-    }
-    match statement_of(tag, a, b, c) {
-        Made::Stated(s) => Said::Stated(s, next),
-        Made::NotStated => Said::Refused(Refusal::TAG_UNKNOWN),
+    match tag {
+        0x01 => Ok(Said::Names(a, b, next)),
+        0x7f => Ok(Said::Ended(next)),
+        _ => match statement_of(tag, a, b, c) {
+            Some(s) => Ok(Said::Stated(s, next)),
+            None => Err(Refusal::new(Refusal::TAG_UNKNOWN, at)),
+        },
     }
 }
 
 // The field that begins at a place: the refusals of its frame, else what it says.
-pub fn field_at(bytes: &[u8], at: usize) -> Said
+pub fn field_at(bytes: &[u8], at: usize) -> Result<Said, Refusal>
     ensures { result ≡ said at (drop at bytes.now) }
 {
-    match frame_at(bytes, at, File::Question, due_at(at), 0) {
-        Frame::Refused(number) => Said::Refused(number),
-        Frame::Sound(tag, n) => say(bytes, at, tag, n),
-    }
+    let frame = frame_at(bytes, at, File::Question, due_at(at), 0)?;
+    say(bytes, at, frame.tag, frame.length)
 }

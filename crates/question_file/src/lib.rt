@@ -7,5 +7,5 @@ mod reads;
 mod writes;
 
 pub use fields::{Said, field_at};
-pub use reads::{ReadQuestion, read_question};
+pub use reads::read_question;
 pub use writes::write_question;

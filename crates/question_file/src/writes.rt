@@ -1,6 +1,5 @@
 // The writer of question files: a question table into a lent buffer, field by field.
-ghost use Rattle.std.specs.Prelude.{◌≡◌, ◌+◌, ◌≤◌, length};
-ghost use Rattle.outcome.specs.declared.checks.Check.TheVariants.{Accepted};
+ghost use Rattle.std.specs.Prelude.{◌≡◌, ◌+◌, ◌≤◌, length, Ok};
 ghost use Rattle.question.specs.Limits.{max_statements};
 ghost use Rattle.question.specs.Questions.{statements};
 ghost use Rattle.question.specs.Checks.{checked};
@@ -10,7 +9,7 @@ ghost use Rattle.question_file.specs.Writes.{written, written_over};
 
 use crate::bodies::{body_length, name_bytes};
 use field::{File, field_length, put_field};
-use outcome::{Check, Refusal, Written};
+use outcome::Refusal;
 use question::{Question, check};
 use statement::Statement;
 
@@ -19,19 +18,14 @@ fn file_length(q: Question) -> usize
     requires { q.count ≤ max_statements }
     ensures { result ≡ length (question_bytes q) }
 {
-    let count = q.count;
     let mut total = field_length(File::Question, 0x01, 0) + field_length(File::Question, 0x7f, 0);
-    let mut i: usize = 0;
-    while i < count {
-        let entry = q.table[i];
-        let s = entry.statement;
-        total += field_length(File::Question, s.tag(), 0);
-        i += 1;
+    for entry in &q.table[..q.count] {
+        total += field_length(File::Question, entry.statement.tag(), 0);
     }
     total
 }
 
-// The field of a statement at the front of the lent part.
+// The field of a statement at the front of the lent part; its length is that of the table of tags, which each writer asks.
 fn put_statement(s: Statement, buf: &mut [u8]) -> usize
     requires { length (statement_bytes s) ≤ length buf.old }
     ensures { (result ≡ length (statement_bytes s)) × (buf.new ≡ over (statement_bytes s) buf.old) }
@@ -46,14 +40,9 @@ fn put_statements(q: Question, buf: &mut [u8]) -> usize
     requires { (q.count ≤ max_statements) × (length (statements_bytes (statements q)) ≤ length buf.old) }
     ensures { (result ≡ length (statements_bytes (statements q))) × (buf.new ≡ over (statements_bytes (statements q)) buf.old) }
 {
-    let count = q.count;
-    let mut at: usize = 0;
-    let mut i: usize = 0;
-    while i < count {
-        let entry = q.table[i];
-        let s = entry.statement;
-        at += put_statement(s, &mut buf[at..]);
-        i += 1;
+    let mut at = 0;
+    for entry in &q.table[..q.count] {
+        at += put_statement(entry.statement, &mut buf[at..]);
     }
     at
 }
@@ -71,28 +60,24 @@ fn put_question(q: Question, buf: &mut [u8])
 }
 
 // The file of an accepted question: 10 if the buffer is shorter than it.
-fn write_accepted(q: Question, buf: &mut [u8]) -> Written
-    requires { checked q ≡ Accepted }
+fn write_accepted(q: Question, buf: &mut [u8]) -> Result<usize, Refusal>
+    requires { checked q ≡ Ok tt }
     ensures { (result ≡ fitted (question_bytes q) (length buf.old)) × (buf.new ≡ fitted_over (question_bytes q) buf.old) }
 {
     let length = file_length(q);
     if buf.len() < length {
-        let refusal = Refusal {
-            number: Refusal::BUFFER_TOO_SHORT,
-            place: 0,
-        };
-        return Written::Refused(refusal);
+        let refusal = Refusal::new(Refusal::BUFFER_TOO_SHORT, 0);
+        return Err(refusal);
     }
     put_question(q, buf);
-    Written::Count(length)
+    Ok(length)
 }
 
 // The file of a question: the refusals of its table, then 10; a refusal leaves the buffer as it was.
-pub fn write_question(q: Question, buf: &mut [u8]) -> Written
+#[tactic(auto, unfolding(crate::specs::Writes::written, crate::specs::Writes::written_over))]
+pub fn write_question(q: Question, buf: &mut [u8]) -> Result<usize, Refusal>
     ensures { (result ≡ written q (length buf.old)) × (buf.new ≡ written_over q buf.old) }
 {
-    match check(q) {
-        Check::Refused(refusal) => Written::Refused(refusal),
-        Check::Accepted => write_accepted(q, buf),
-    }
+    check(q)?;
+    write_accepted(q, buf)
 }

@@ -1,9 +1,9 @@
 -- The rows of an accepted question pass the check of rows, and say the row list again.
+use Rattle.std.proofs.Common.{Ok}
 use mathlib.Core.Path.{◌≡◌}
 use mathlib.Core.List.{map}
 use native.Mathlib.Omega.{arith}
 use Rattle.question.specs.declared.questions.Question.{Question}
-use Rattle.outcome.specs.declared.checks.Check.TheVariants.{Accepted}
 use Rattle.question.specs.Questions.{terms_of}
 use Rattle.question.specs.Checks.{IsAccepted}
 use Rattle.question.proofs.StatementsLaws.{statements_length}
@@ -16,7 +16,7 @@ use Rattle.reduction.specs.Reducing.{packed_rows}
 use Rattle.reduction.proofs.ReducingLaws.{packed_few}
 
 module _ (q : Question) (accepted : IsAccepted q) where
-  pub rows_pass : rows_checked (terms_of q) q.sets (packed_rows q) ≡ Accepted
+  pub rows_pass : rows_checked (terms_of q) q.sets (packed_rows q) ≡ Ok tt
   unfolding packed_rows
   rows_pass = rows_accepted (terms_of q) q.sets (packed_rows q) (record {
     few_terms = accepted.few_terms;

@@ -1,5 +1,6 @@
 -- Demand 3, of what `reduce` writes: a question is possible with a pattern of equal names exactly if the rows in the buffer have a solution with that pattern.
 -- The written rows say the row list again, of which the theory shows it.
+use Rattle.std.proofs.Common.{Ok}
 use Prim.Native.Nat.{ℕ, ◌≤◌}
 use mathlib.Core.Path.{◌≡◌, sym, ap, subst, ◌∙◌}
 use mathlib.Core.Bool.{Bool}
@@ -20,7 +21,6 @@ use Rattle.theory.specs.Possible.{Possible}
 use Rattle.theory.proofs.DemandThree.{demand_three}
 use Rattle.outcome.specs.Calls.{Call}
 use Rattle.row.specs.Rows.{row_of}
-use Rattle.outcome.specs.declared.writes.Written.TheVariants.{Count}
 use Rattle.reduction.specs.Reducing.{packed_rows, reduced, reduced_over}
 use Rattle.reduction.proofs.TableRows.{whole, table_stands, as_table}
 use Rattle.outcome.proofs.WriteLaws.{counted}
@@ -43,12 +43,12 @@ packed_demand_three q is pattern = (
 )
 
 -- rows are told of an accepted question alone, all of them, and where there is room
-pub rows_told : (q : Question) (room n : ℕ) → reduced q room ≡ Count n → IsAccepted q × (n ≡ length (packed_rows q)) × (n ≤ room)
+pub rows_told : (q : Question) (room n : ℕ) → reduced q room ≡ Ok n → IsAccepted q × (n ≡ length (packed_rows q)) × (n ≤ room)
 unfolding reduced
 rows_told q room n e = let c = counted (checked q) (packed_rows q) room n e in ((accepted q).0 c.0, c.1, omega (arith, c.1, c.2))
 
 -- they stand at the front of the buffer
-pub rows_stand : (q : Question) (old new : List ℕ) (n : ℕ) → new ≡ reduced_over q old → reduced q (length old) ≡ Count n → (n ≤ length new) × (take n new ≡ packed_rows q)
+pub rows_stand : (q : Question) (old new : List ℕ) (n : ℕ) → new ≡ reduced_over q old → reduced q (length old) ≡ Ok n → (n ≤ length new) × (take n new ≡ packed_rows q)
 rows_stand q old new n b e =
     let same = as_table q old ((accepted q).1 (rows_told q (length old) n e).0) in
     table_stands q old new n (b ∙ same.1) (sym same.0 ∙ e)
@@ -66,13 +66,13 @@ module _ (c : Call reduce.Learnt) where
   new = c.exit.1.0.now
 
   -- it gives back n rows exactly if the question is accepted, has n rows, and the buffer has room for them: else it is refused
-  pub reduces_exactly : (n : ℕ) → (c.result ≡ Count n) ↔ (IsAccepted question × (n ≡ length (packed_rows question)) × (n ≤ length old))
+  pub reduces_exactly : (n : ℕ) → (c.result ≡ Ok n) ↔ (IsAccepted question × (n ≡ length (packed_rows question)) × (n ≤ length old))
   reduces_exactly n = (
     λ e. rows_told question (length old) n (sym c.fits.0 ∙ e),
-    λ t. c.fits.0 ∙ (as_table question old ((accepted question).1 t.0)).0 ∙ (whole question old t.0.few_terms (omega (arith, t.1, t.2))).0 ∙ ap Count (sym t.1),
+    λ t. c.fits.0 ∙ (as_table question old ((accepted question).1 t.0)).0 ∙ (whole question old t.0.few_terms (omega (arith, t.1, t.2))).0 ∙ ap Ok (sym t.1),
   )
 
   -- the first n numbers of its buffer, as rows, are solvable with a pattern exactly if some assignment with that pattern meets the statements
-  pub reduced_demand_three : (n : ℕ) → c.result ≡ Count n → (pattern : ℕ → ℕ → Bool) → Possible question pattern ↔ RowsSolvable question (take n new) pattern
+  pub reduced_demand_three : (n : ℕ) → c.result ≡ Ok n → (pattern : ℕ → ℕ → Bool) → Possible question pattern ↔ RowsSolvable question (take n new) pattern
   reduced_demand_three n e pattern =
       rw (rows_stand question old new n c.fits.1 (sym c.fits.0 ∙ e)).1 (packed_demand_three question ((reduces_exactly n).0 e).0 pattern)

@@ -1,3 +1,3 @@
 -- The definitions that the contracts cite.
-pub mod Writing
+pub mod Rules
 pub mod Reducing

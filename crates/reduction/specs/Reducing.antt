@@ -1,7 +1,6 @@
 -- What the reduction writes and answers.
-use Rattle.std.specs.Prelude.{ℕ, cond, List, map, ltb}
-use Rattle.outcome.specs.declared.checks.Check.{Check}
-use Rattle.outcome.specs.declared.checks.Check.TheVariants.{Accepted, Refused}
+use Rattle.std.specs.Prelude.{ℕ, cond, List, map, ltb, Ok, Err}
+use Rattle.outcome.specs.Checks.{Check}
 use Rattle.outcome.specs.Refusals.{refusal, too_many_names}
 use Rattle.outcome.specs.Writes.{fitted, fitted_over, checked_then, checked_over}
 use Rattle.question.specs.declared.questions.Question.{Question}
@@ -10,7 +9,7 @@ use Rattle.question.specs.Questions.{terms_of}
 use Rattle.question.specs.Checks.{checked}
 use Rattle.theory.specs.Reduction.{row_list}
 use Rattle.row.specs.Rows.{pack_row}
-use Rattle.outcome.specs.declared.writes.Written.{Written}
+use Rattle.outcome.specs.Writes.{Written}
 
 -- the row list, each row as its number
 unfoldable pub packed_rows : Question → List ℕ
@@ -18,7 +17,7 @@ packed_rows q = map pack_row (row_list q)
 
 -- more than 12 terms: 5 at place 0, as for rows that are handed in; nothing else of the table is checked
 unfoldable pub terms_checked : Question → Check
-terms_checked q = cond (ltb max_terms (terms_of q)) (Refused (refusal too_many_names 0)) Accepted
+terms_checked q = cond (ltb max_terms (terms_of q)) (Err (refusal too_many_names 0)) (Ok tt)
 
 -- the rows of a table as it stands, where there is room for so many: 5, then 10, else how many rows are written
 unfoldable pub rows_written : Question → ℕ → Written

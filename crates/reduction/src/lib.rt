@@ -2,6 +2,7 @@
 #![tactic(auto)]
 
 mod reducing;
+mod rules;
 mod writing;
 
 pub use reducing::{reduce, write_rows};

@@ -1,64 +1,56 @@
-// Rows written at the front of a lent part of the buffer: one, one for each term, those of a statement.
+// Rows written at the front of a lent part of the buffer: one, one for each term, those of a rule.
 ghost use Rattle.std.specs.Prelude.{◌≡◌, [], ◌∷◌, ◌≤◌, ◌<◌, length};
 ghost use Rattle.outcome.specs.Writes.{over};
-ghost use Rattle.row.specs.Parts.{packed};
-ghost use Rattle.reduction.specs.Writing.{parts, each_term, statement_rows};
+ghost use Rattle.theory.specs.Rules.{row};
+ghost use Rattle.row.specs.Rows.{pack_row};
+ghost use Rattle.row.specs.Tests.{said};
+ghost use Rattle.reduction.specs.Rules.{said_rule, each_term, rule_rows};
 
-use row::{RowParts, pack};
-use statement::Statement;
+use crate::rules::Rule;
+use row::{RowParts, Test, pack};
 
 // One row.
-fn put_one(kind: u8, term: u8, first: u8, second: u8, rows: &mut [u32]) -> usize
+fn put_one(term: u8, test: Test, rows: &mut [u32]) -> usize
     requires { 1 ≤ length rows.old }
-    ensures { (result ≡ 1) × (rows.new ≡ over (packed (parts kind term first second 0) ∷ []) rows.old) }
+    ensures { (result ≡ 1) × (rows.new ≡ over (pack_row (row term (said test)) ∷ []) rows.old) }
 {
-    let row = RowParts {
-        kind: kind,
-        term: term,
-        first: first,
-        second: second,
-        third: 0,
-    };
-    rows[0] = pack(row);
+    rows[0] = pack(RowParts::new(term, test));
     1
 }
 
-// The same row for each term, terms going upward.
-fn put_each(kind: u8, first: u8, second: u8, third: u8, terms: usize, rows: &mut [u32]) -> usize
+// The same test for each term, terms going upward.
+fn put_each(test: Test, terms: usize, rows: &mut [u32]) -> usize
     requires { (terms ≤ 12) × (terms ≤ length rows.old) }
-    ensures { (result ≡ terms) × (rows.new ≡ over (each_term kind first second third terms) rows.old) }
+    ensures { (result ≡ terms) × (rows.new ≡ over (each_term (said test) terms) rows.old) }
 {
-    let mut c: usize = 0;
-    while c < terms {
-        let row = RowParts {
-            kind: kind,
+    let parts = RowParts::new(0, test);
+    for c in 0..terms {
+        rows[c] = pack(RowParts {
             term: c as u8,
-            first: first,
-            second: second,
-            third: third,
-        };
-        rows[c] = pack(row);
-        c += 1;
+            ..parts
+        });
     }
-    c
+    terms
 }
 
-// The rows of a statement, where there are so many terms and the next witness is term `witness`.
-pub(crate) fn put_statement(s: Statement, terms: usize, witness: usize, rows: &mut [u32]) -> usize
-    requires { (terms ≤ 12) × (length (statement_rows terms witness s) ≤ length rows.old) × (witness < 256) }
-    ensures { (result ≡ length (statement_rows terms witness s)) × (rows.new ≡ over (statement_rows terms witness s) rows.old) }
+// How many rows a rule has: one, or one for each of so many terms.
+pub(crate) fn row_count(rule: Rule, terms: usize) -> usize
+    ensures { result ≡ length (rule_rows terms 0 (said_rule rule)) }
 {
-    match s {
-        Statement::ElementsEqual(a, b) => put_one(0, a.0, b.0, 0, rows),
-        Statement::ElementsDiffer(a, b) => put_one(1, a.0, b.0, 0, rows),
-        Statement::In(a, x) => put_one(2, a.0, x.0, 0, rows),
-        Statement::NotIn(a, x) => put_one(3, a.0, x.0, 0, rows),
-        Statement::SetsEqual(x, y) => put_each(4, x.0, y.0, 0, terms, rows),
-        Statement::SetsDiffer(x, y) => put_one(5, witness as u8, x.0, y.0, rows),
-        Statement::Empty(x) => put_each(3, x.0, 0, 0, terms, rows),
-        Statement::Single(x, a) => put_each(6, x.0, a.0, 0, terms, rows),
-        Statement::Union(x, y, z) => put_each(7, x.0, y.0, z.0, terms, rows),
-        Statement::Intersection(x, y, z) => put_each(8, x.0, y.0, z.0, terms, rows),
-        Statement::Difference(x, y, z) => put_each(9, x.0, y.0, z.0, terms, rows),
+    match rule {
+        Rule::OneTerm(_, _) | Rule::OwnWitness(_) => 1,
+        Rule::EachTerm(_) => terms,
+    }
+}
+
+// The rows of a rule, where there are so many terms and the next witness is term `witness`.
+pub(crate) fn put_rule(rule: Rule, terms: usize, witness: usize, rows: &mut [u32]) -> usize
+    requires { (terms ≤ 12) × (length (rule_rows terms witness (said_rule rule)) ≤ length rows.old) × (witness < 256) }
+    ensures { (result ≡ length (rule_rows terms witness (said_rule rule))) × (rows.new ≡ over (rule_rows terms witness (said_rule rule)) rows.old) }
+{
+    match rule {
+        Rule::OneTerm(term, test) => put_one(term, test, rows),
+        Rule::EachTerm(test) => put_each(test, terms, rows),
+        Rule::OwnWitness(test) => put_one(witness as u8, test, rows),
     }
 }

@@ -1,4 +1,5 @@
 -- The check accepts exactly the rows within the limits of which each is good; so those of an accepted question pass it.
+use Rattle.std.proofs.Common.{Ok, Err}
 use Prim.Native.Nat.{ℕ, suc, ◌≤◌}
 use mathlib.Core.Path.{◌≡◌, refl}
 use mathlib.Core.Bool.{Bool, true, false, ◌||◌, cond}
@@ -6,11 +7,10 @@ use mathlib.Core.List.{List, [], ◌∷◌, map}
 use borrow.Author.Tests.{ltb-false, le-ltb}
 use lib.Dec.{T, ltb}
 use lib.ListN.{length}
-use Rattle.outcome.specs.declared.checks.Check.TheVariants.{Accepted, Refused}
 use Rattle.question.specs.Limits.{max_terms, max_sets, max_rows}
 use Rattle.outcome.specs.Refusals.{refusal, too_many_names, too_many_statements, bad_row}
 use Rattle.statement.proofs.TestLaws.{and_left, and_right, and_both}
-use Rattle.outcome.proofs.CheckLaws.{refused_accepted}
+use Rattle.outcome.proofs.CheckLaws.{refused_ok}
 use Rattle.theory.specs.Rules.{Row}
 use Rattle.theory.specs.Solutions.{all_rows}
 use Rattle.theory.specs.Sets.{Test, row_declared}
@@ -25,17 +25,17 @@ module _ (terms sets : ℕ) where
   AllGood [] = Unit {0}
   AllGood (n ∷ ns) = (row_good terms sets n ≡ true) × AllGood ns
 
-  accepted_good : (i : ℕ) (ns : List ℕ) → rows_checked_from terms sets i ns ≡ Accepted → AllGood ns
+  accepted_good : (i : ℕ) (ns : List ℕ) → rows_checked_from terms sets i ns ≡ Ok tt → AllGood ns
   unfolding rows_checked_from
   accepted_good i [] e = tt
   accepted_good i (n ∷ ns) e = go (row_good terms sets n) refl e (accepted_good (suc i) ns)
     where
-      go : (b : Bool) → row_good terms sets n ≡ b → cond b (rows_checked_from terms sets (suc i) ns) (Refused (refusal bad_row i)) ≡ Accepted →
-          (rows_checked_from terms sets (suc i) ns ≡ Accepted → AllGood ns) → AllGood (n ∷ ns)
+      go : (b : Bool) → row_good terms sets n ≡ b → cond b (rows_checked_from terms sets (suc i) ns) (Err (refusal bad_row i)) ≡ Ok tt →
+          (rows_checked_from terms sets (suc i) ns ≡ Ok tt → AllGood ns) → AllGood (n ∷ ns)
       go true p e k = (p, k e)
-      go false p e k = refused_accepted e
+      go false p e k = refused_ok e
 
-  good_accepted : (i : ℕ) (ns : List ℕ) → AllGood ns → rows_checked_from terms sets i ns ≡ Accepted
+  good_accepted : (i : ℕ) (ns : List ℕ) → AllGood ns → rows_checked_from terms sets i ns ≡ Ok tt
   unfolding rows_checked_from
   good_accepted i [] h = refl
   good_accepted i (n ∷ ns) h = rw h.0 (good_accepted (suc i) ns h.1)
@@ -47,18 +47,18 @@ module _ (terms sets : ℕ) where
     pub few_rows : length rows ≤ max_rows
     pub all_good : AllGood rows
 
-  pub rows_keep : (rows : List ℕ) → rows_checked terms sets rows ≡ Accepted → RowsAccepted rows
+  pub rows_keep : (rows : List ℕ) → rows_checked terms sets rows ≡ Ok tt → RowsAccepted rows
   unfolding rows_checked
   rows_keep rows e = go (ltb max_terms terms) (ltb max_sets sets) (ltb max_rows (length rows)) refl refl refl e
     where
       go : (a b c : Bool) → ltb max_terms terms ≡ a → ltb max_sets sets ≡ b → ltb max_rows (length rows) ≡ c →
-          cond (a || b) (Refused (refusal too_many_names 0)) (cond c (Refused (refusal too_many_statements 0)) (rows_checked_from terms sets 0 rows)) ≡ Accepted → RowsAccepted rows
-      go true b c p q r e = refused_accepted e
-      go false true c p q r e = refused_accepted e
-      go false false true p q r e = refused_accepted e
+          cond (a || b) (Err (refusal too_many_names 0)) (cond c (Err (refusal too_many_statements 0)) (rows_checked_from terms sets 0 rows)) ≡ Ok tt → RowsAccepted rows
+      go true b c p q r e = refused_ok e
+      go false true c p q r e = refused_ok e
+      go false false true p q r e = refused_ok e
       go false false false p q r e = record { few_terms = ltb-false _ _ p; few_sets = ltb-false _ _ q; few_rows = ltb-false _ _ r; all_good = accepted_good 0 rows e }
 
-  pub rows_accepted : (rows : List ℕ) → RowsAccepted rows → rows_checked terms sets rows ≡ Accepted
+  pub rows_accepted : (rows : List ℕ) → RowsAccepted rows → rows_checked terms sets rows ≡ Ok tt
   unfolding rows_checked
   rows_accepted rows h = rw (le-ltb max_terms terms h.few_terms, le-ltb max_sets sets h.few_sets, le-ltb max_rows (length rows) h.few_rows) (good_accepted 0 rows h.all_good)
 

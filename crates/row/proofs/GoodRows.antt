@@ -1,15 +1,19 @@
--- A good number is the packing of the row that it says, and that row is declared.
-use Prim.Native.Nat.{ℕ, zero, suc, ◌^◌}
-use mathlib.Core.Path.{◌≡◌, refl, ap, ◌∙◌}
+-- A good number is the packing of the row that it says, and that row is declared; a declared row that there is room for packs to a good number.
+use Prim.Native.Nat.{ℕ, zero, suc, ◌^◌, ◌≤◌, ◌<◌}
+use mathlib.Core.Path.{◌≡◌, refl, sym, ap, ◌∙◌}
 use mathlib.Core.Bool.{Bool, true, false, ◌&&◌}
-use lib.Dec.{T, eqb, ltb, ltb→lt, eqb→eq}
-use lib.ListN.{get_or}
-use Rattle.statement.proofs.TestLaws.{T_true, and_left, and_right, and_both}
-use Rattle.theory.specs.Sets.{places_of, test_of, places_declared, row_declared}
+use native.Mathlib.Omega.{arith}
+use lib.Dec.{T, eqb, ltb, ltb→lt, lt→ltb, eqb→eq}
+use lib.ListN.{get_or, get_or-eq_default}
+use Rattle.statement.proofs.TestLaws.{T_true, true_T, and_left, and_right, and_both}
+use Rattle.theory.specs.Rules.{Row}
+use Rattle.theory.specs.Sets.{Test, IsSame, IsNotSame, IsIn, IsNotIn, ExactlyIfIn, ExactlyIfNotIn, ExactlyIfSame, ExactlyIfOr, ExactlyIfAnd, ExactlyIfAndNot, places_of, kind_of, test_of, places_declared, row_declared}
 use Rattle.row.specs.declared.parts.RowParts.{RowParts}
-use Rattle.row.specs.Parts.{row_bits, packed, parts_of}
-use Rattle.row.specs.Rows.{parts_of_row, pack_row, row_of_parts, row_of}
+use Rattle.row.specs.Parts.{term_bits, row_bits, packed, parts_of}
+use Rattle.row.specs.Rows.{place_at, parts_of_row, pack_row, row_of_parts, row_of}
 use Rattle.row.specs.Checks.{good_by_kind, places_good, row_good}
+use Rattle.row.specs.Tests.{HasRoom}
+use Rattle.row.proofs.RoomLaws.{packed_small, parts_back}
 use Rattle.row.proofs.RoundTrips.{packed_again}
 
 -- ten kinds, and no other
@@ -77,6 +81,73 @@ module _ (terms sets : ℕ) where
 
       one_zero : (k : ℕ) (a b : Bool) → T (a && b && eqb z 0) → parts k c x y 0 ≡ parts k c x y z
       one_zero k a b h = let ez = eqb→eq z 0 (three a b (eqb z 0) h).2 in rw ez
+
+  -- what the code tests of parts that say the test t
+  abbrev pub good_by_test : RowParts → Test → Bool
+  good_by_test p (IsSame d) = ltb d terms && eqb p.second 0 && eqb p.third 0
+  good_by_test p (IsNotSame d) = ltb d terms && eqb p.second 0 && eqb p.third 0
+  good_by_test p (IsIn x) = ltb x sets && eqb p.second 0 && eqb p.third 0
+  good_by_test p (IsNotIn x) = ltb x sets && eqb p.second 0 && eqb p.third 0
+  good_by_test p (ExactlyIfIn x y) = ltb x sets && ltb y sets && eqb p.third 0
+  good_by_test p (ExactlyIfNotIn x y) = ltb x sets && ltb y sets && eqb p.third 0
+  good_by_test p (ExactlyIfSame x a) = ltb x sets && ltb a terms && eqb p.third 0
+  good_by_test p (ExactlyIfOr x y z) = ltb x sets && ltb y sets && ltb z sets
+  good_by_test p (ExactlyIfAnd x y z) = ltb x sets && ltb y sets && ltb z sets
+  good_by_test p (ExactlyIfAndNot x y z) = ltb x sets && ltb y sets && ltb z sets
+
+  -- is what is good of their kind, if there is such a kind
+  pub places_tested : (p : RowParts) (t : Test) → p.kind < 10 → t ≡ (row_of_parts p).test → good_by_test p t ≡ places_good terms sets p
+  unfolding places_good
+  places_tested p t few e =
+      let x = p.first in let y = p.second in let z = p.third in
+      rw e
+      (by_kind (λ k. k < 10 → good_by_test p (test_of k x y z) ≡ get_or (good_by_kind terms sets x y z) k false)
+      (λ h. refl) (λ h. refl) (λ h. refl) (λ h. refl) (λ h. refl) (λ h. refl) (λ h. refl) (λ h. refl) (λ h. refl) (λ h. refl)
+      (λ k h. absurd (omega arith))
+      p.kind few)
+
+  pub places_past : (p : RowParts) → 10 ≤ p.kind → false ≡ places_good terms sets p
+  unfolding places_good
+  places_past p h = sym (get_or-eq_default (good_by_kind terms sets p.first p.second p.third) false {n = p.kind} h)
+
+  -- the places of a test are good if they are declared: one place used, two, three
+  used_one : (a : Bool) → T (a && true) → T (a && true && true)
+  used_one true h = tt
+  used_one false h = absurd h
+
+  used_two : (a b : Bool) → T (a && (b && true)) → T (a && b && true)
+  used_two true true h = tt
+  used_two true false h = absurd h
+  used_two false b h = absurd h
+
+  used_three : (a b c : Bool) → T (a && (b && (c && true))) → T (a && b && c)
+  used_three true true true h = tt
+  used_three true true false h = absurd h
+  used_three true false c h = absurd h
+  used_three false b c h = absurd h
+
+  pub test_good : (t : Test) → T (places_declared terms sets (places_of t)) → Good (place_at t 0) (place_at t 1) (place_at t 2) (kind_of t)
+  test_good (IsSame d) h = used_one (ltb d terms) h
+  test_good (IsNotSame d) h = used_one (ltb d terms) h
+  test_good (IsIn x) h = used_one (ltb x sets) h
+  test_good (IsNotIn x) h = used_one (ltb x sets) h
+  test_good (ExactlyIfIn x y) h = used_two (ltb x sets) (ltb y sets) h
+  test_good (ExactlyIfNotIn x y) h = used_two (ltb x sets) (ltb y sets) h
+  test_good (ExactlyIfSame x a) h = used_two (ltb x sets) (ltb a terms) h
+  test_good (ExactlyIfOr x y z) h = used_three (ltb x sets) (ltb y sets) (ltb z sets) h
+  test_good (ExactlyIfAnd x y z) h = used_three (ltb x sets) (ltb y sets) (ltb z sets) h
+  test_good (ExactlyIfAndNot x y z) h = used_three (ltb x sets) (ltb y sets) (ltb z sets) h
+
+  -- a declared row that there is room for packs to a good number
+  pub room_good : (r : Row Test) → r.term < 2 ^ term_bits → HasRoom r.test → T (row_declared terms sets r) → row_good terms sets (pack_row r) ≡ true
+  unfolding row_good places_good pack_row
+  room_good r term room declared =
+      let n = packed (parts_of_row r) in
+      let its_term = and_left (ltb r.term terms) (places_declared terms sets (places_of r.test)) declared in
+      let its_places = and_right (ltb r.term terms) (places_declared terms sets (places_of r.test)) declared in
+      true_T (row_good terms sets n)
+      (and_both (ltb n (2 ^ row_bits)) (ltb (parts_of n).term terms && places_good terms sets (parts_of n)) (lt→ltb n (2 ^ row_bits) (packed_small (parts_of_row r)))
+      (rw (parts_back r term room) (and_both (ltb r.term terms) (places_good terms sets (parts_of_row r)) its_term (test_good r.test its_places))))
 
   module _ (n : ℕ) (good : row_good terms sets n ≡ true) where
     small : T (ltb n (2 ^ row_bits))

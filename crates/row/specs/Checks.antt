@@ -1,7 +1,6 @@
 -- Which numbers are rows over so many terms and sets, and the check of rows that are handed in.
-use Rattle.std.specs.Prelude.{ℕ, suc, ◌^◌, Bool, false, ◌&&◌, ◌||◌, cond, List, [], ◌∷◌, eqb, ltb, length, get_or}
-use Rattle.outcome.specs.declared.checks.Check.{Check}
-use Rattle.outcome.specs.declared.checks.Check.TheVariants.{Accepted, Refused}
+use Rattle.std.specs.Prelude.{ℕ, suc, ◌^◌, Bool, false, ◌&&◌, ◌||◌, cond, List, [], ◌∷◌, eqb, ltb, length, get_or, Ok, Err}
+use Rattle.outcome.specs.Checks.{Check}
 use Rattle.question.specs.Limits.{max_terms, max_sets, max_rows}
 use Rattle.outcome.specs.Refusals.{refusal, too_many_names, too_many_statements, bad_row}
 use Rattle.row.specs.declared.parts.RowParts.{RowParts}
@@ -32,11 +31,11 @@ row_good terms sets n = ltb n (2 ^ row_bits) && (ltb (parts_of n).term terms && 
 
 -- the first bad row, where the first row has the index i
 unfoldable pub rows_checked_from : ℕ → ℕ → ℕ → List ℕ → Check
-rows_checked_from terms sets i [] = Accepted
-rows_checked_from terms sets i (n ∷ ns) = cond (row_good terms sets n) (rows_checked_from terms sets (suc i) ns) (Refused (refusal bad_row i))
+rows_checked_from terms sets i [] = Ok tt
+rows_checked_from terms sets i (n ∷ ns) = cond (row_good terms sets n) (rows_checked_from terms sets (suc i) ns) (Err (refusal bad_row i))
 
 -- 5, then 7 (place 0), then 12 (place the row)
 unfoldable pub rows_checked : ℕ → ℕ → List ℕ → Check
 rows_checked terms sets rows =
-    cond (ltb max_terms terms || ltb max_sets sets) (Refused (refusal too_many_names 0))
-    (cond (ltb max_rows (length rows)) (Refused (refusal too_many_statements 0)) (rows_checked_from terms sets 0 rows))
+    cond (ltb max_terms terms || ltb max_sets sets) (Err (refusal too_many_names 0))
+    (cond (ltb max_rows (length rows)) (Err (refusal too_many_statements 0)) (rows_checked_from terms sets 0 rows))

@@ -1,4 +1,5 @@
 -- The clash for C, on the contract of `sayfudhoum_clash`: the ways in which a call ends, for all bytes, and what a caller may conclude from the number and the three buffers.
+use Rattle.std.proofs.Common.{Ok, Err}
 use Prim.Native.Nat.{ℕ, ◌+◌, ◌*◌, ◌/◌, ◌^◌, ◌≤◌, ◌<◌}
 use mathlib.Core.Path.{◌≡◌, refl, sym, ap, subst, ◌∙◌}
 use mathlib.Core.Bool.{Bool, true, false}
@@ -9,8 +10,7 @@ use native.Mathlib.Omega.{arith}
 use lib.Arith.{digits_div}
 use lib.ListN.{length, get_or, length-map}
 use Rattle.outcome.specs.declared.refusals.Refusal.{Refusal}
-use Rattle.outcome.specs.declared.checks.Check.{Check}
-use Rattle.outcome.specs.declared.checks.Check.TheVariants.{Accepted, Refused}
+use Rattle.outcome.specs.Checks.{Check, outcome_of}
 use Rattle.outcome.specs.Calls.{Call}
 use Rattle.outcome.specs.Checks.{accepted_then}
 use Rattle.outcome.specs.Writes.{over}
@@ -22,14 +22,15 @@ use Rattle.question.specs.Checks.{IsAccepted}
 use Rattle.question.specs.Builds.{declaring, unused_table, without}
 use Rattle.question.proofs.StatementsLaws.{statements_length}
 use Rattle.question_file.specs.Bytes.{statements_bytes, file_bytes, question_bytes}
-use Rattle.question_file.specs.Reads.{read_question}
+use Rattle.outcome.proofs.CheckLaws.{then_by_outcome}
+use Rattle.question.specs.Builds.{declaring}
+use Rattle.question_file.specs.Reads.{read_question, asked}
 use Rattle.question_file.proofs.RefusalLaws.{refusal_told}
 use Rattle.question_file.proofs.RoundTrips.{read_checked, written_again}
 use Rattle.question_file.proofs.WriterLaws.{longest}
 use Rattle.theory.specs.Solutions.{Solution}
 use Rattle.theory.specs.Answers.{as_model}
 use Rattle.answer.specs.Bytes.{file_of}
-use Rattle.clash.specs.declared.files.ClashWritten.TheVariants.{Refused as NotWritten}
 use Rattle.clash.specs.Clashes.{clashing, Rising, statements_at, part_of}
 use Rattle.clash.specs.Parts.{IsClash}
 use Rattle.clash.specs.Files.{Three, three, any_short, three_written, three_over, clash_bytes, clash_written, clash_over}
@@ -37,7 +38,7 @@ use Rattle.clash.proofs.PartLaws.{clash_is, clash_some, possible_none, possible_
 use Rattle.clash.proofs.ThreeLaws.{three_same, three_short, three_fit}
 use Rattle.sayfudhoum.specs.Files.{answer_in}
 use Rattle.sayfudhoum.specs.Numbers.{counts_number, clashed_number, clash_number}
-use Rattle.sayfudhoum.proofs.EndToEnd.{IsImpossible, IsPossible, IsShown, impossible_file, question_accepted, none_means, some_shown, refused_accepted, not_both, possible_shown, none_file}
+use Rattle.sayfudhoum.proofs.EndToEnd.{IsImpossible, IsPossible, IsShown, impossible_file, question_accepted, none_means, some_shown, refused_ok, not_both, possible_shown, none_file}
 use Rattle.sayfudhoum.proofs.Exactness.{Tells, tells_one, file_tells}
 use Rattle.sayfudhoum.proofs.exports.sayfudhoum_clash.Reads as clash_call
 
@@ -45,12 +46,12 @@ use Rattle.sayfudhoum.proofs.exports.sayfudhoum_clash.Reads as clash_call
 pub record IsClashOf (bytes part indexes : List ℕ) : Type 0 where
   pub file_impossible : IsImpossible bytes
   pub part_impossible : IsImpossible part
-  pub none_spared : (i : ℕ) → i < length indexes → CanHold (read_question part).question.elements (without i 1 (statements (read_question part).question))
-  pub same_elements : (read_question part).question.elements ≡ (read_question bytes).question.elements
-  pub same_sets : (read_question part).question.sets ≡ (read_question bytes).question.sets
-  pub at_indexes : statements (read_question part).question ≡ statements_at (read_question bytes).question indexes
-  pub rising : Rising 0 (length (statements (read_question bytes).question)) indexes
-  pub whole : (part ≡ bytes) ↔ IsClash (read_question bytes).question.elements (statements (read_question bytes).question)
+  pub none_spared : (i : ℕ) → i < length indexes → CanHold (asked (read_question part)).elements (without i 1 (statements (asked (read_question part))))
+  pub same_elements : (asked (read_question part)).elements ≡ (asked (read_question bytes)).elements
+  pub same_sets : (asked (read_question part)).sets ≡ (asked (read_question bytes)).sets
+  pub at_indexes : statements (asked (read_question part)) ≡ statements_at (asked (read_question bytes)) indexes
+  pub rising : Rising 0 (length (statements (asked (read_question bytes)))) indexes
+  pub whole : (part ≡ bytes) ↔ IsClash (asked (read_question bytes)).elements (statements (asked (read_question bytes)))
 
 -- the file with the names alone, which is the part of a possible file
 abbrev pub names_file : ℕ → ℕ → List ℕ
@@ -62,21 +63,21 @@ names_file_lem E S = refl
 
 -- that of a file's names
 abbrev pub names_in : List ℕ → List ℕ
-names_in bytes = names_file (read_question bytes).question.elements (read_question bytes).question.sets
+names_in bytes = names_file (asked (read_question bytes)).elements (asked (read_question bytes)).sets
 
 -- the ways in which `sayfudhoum_clash` ends: the number that it gives back, and the buffers that it leaves
 pub data Clashes (bytes : List ℕ) (old : Three) (number : ℕ) (new : Three) : Type 0 where
-  file_refused : (r : Refusal) → (read_question bytes).outcome ≡ Refused r → number ≡ r.place * 256 + r.number → new ≡ old → Clashes bytes old number new
-  too_short : (read_question bytes).outcome ≡ Accepted → any_short (clash_bytes (read_question bytes).question) old ≡ true → number ≡ 10 → new ≡ old → Clashes bytes old number new
-  impossible : (part indexes : List ℕ) → IsClashOf bytes part indexes → 1 ≤ length indexes → clash_bytes (read_question bytes).question ≡ three part indexes impossible_file → any_short (three part indexes impossible_file) old ≡ false → number ≡ counts_number (length part) (length indexes) 7 →
+  file_refused : (r : Refusal) → outcome_of (read_question bytes) ≡ Err r → number ≡ r.place * 256 + r.number → new ≡ old → Clashes bytes old number new
+  too_short : outcome_of (read_question bytes) ≡ Ok tt → any_short (clash_bytes (asked (read_question bytes))) old ≡ true → number ≡ 10 → new ≡ old → Clashes bytes old number new
+  impossible : (part indexes : List ℕ) → IsClashOf bytes part indexes → 1 ≤ length indexes → clash_bytes (asked (read_question bytes)) ≡ three part indexes impossible_file → any_short (three part indexes impossible_file) old ≡ false → number ≡ counts_number (length part) (length indexes) 7 →
       new ≡ three (over part old.part) (over indexes old.indexes) (over impossible_file old.answer) → Clashes bytes old number new
-  possible : (sol : Solution) → IsShown bytes sol → clash_bytes (read_question bytes).question ≡ three (names_in bytes) [] (file_of (some sol)) → any_short (three (names_in bytes) [] (file_of (some sol))) old ≡ false → number ≡ counts_number 8 0 (length (file_of (some sol))) →
+  possible : (sol : Solution) → IsShown bytes sol → clash_bytes (asked (read_question bytes)) ≡ three (names_in bytes) [] (file_of (some sol)) → any_short (three (names_in bytes) [] (file_of (some sol))) old ≡ false → number ≡ counts_number 8 0 (length (file_of (some sol))) →
       new ≡ three (over (names_in bytes) old.part) old.indexes (over (file_of (some sol)) old.answer) → Clashes bytes old number new
 
 -- the part of an accepted file
-module _ (bytes : List ℕ) (e : (read_question bytes).outcome ≡ Accepted) where
+module _ (bytes : List ℕ) (e : outcome_of (read_question bytes) ≡ Ok tt) where
   abbrev q : Question
-  q = (read_question bytes).question
+  q = asked (read_question bytes)
 
   is : IsAccepted q
   is = (question_accepted bytes e).0
@@ -90,11 +91,11 @@ module _ (bytes : List ℕ) (e : (read_question bytes).outcome ≡ Accepted) whe
       let again = written_again bytes e in
       record {
         file_impossible = i;
-        part_impossible = record { file_accepted = ap (λ r. r.outcome) back; no_assignment = subst (λ r. CantHold r.question.elements (statements r.question)) (sym back) c.cant_hold };
-        none_spared = λ j lt. subst (λ r. CanHold r.question.elements (without j 1 (statements r.question))) (sym back) (c.none_spared j (omega (arith, ap length (part_stated q is), length-map (clashing q) (λ i. get_or (statements q) i idle.statement))));
-        same_elements = ap (λ r. r.question.elements) back;
-        same_sets = ap (λ r. r.question.sets) back;
-        at_indexes = ap (λ r. statements r.question) back ∙ part_stated q is;
+        part_impossible = record { file_accepted = ap outcome_of back; no_assignment = subst (λ r. CantHold (asked r).elements (statements (asked r))) (sym back) c.cant_hold };
+        none_spared = λ j lt. subst (λ r. CanHold (asked r).elements (without j 1 (statements (asked r)))) (sym back) (c.none_spared j (omega (arith, ap length (part_stated q is), length-map (clashing q) (λ i. get_or (statements q) i idle.statement))));
+        same_elements = ap (λ r. (asked r).elements) back;
+        same_sets = ap (λ r. (asked r).sets) back;
+        at_indexes = ap (λ r. statements (asked r)) back ∙ part_stated q is;
         rising = indexes_rise q is;
         whole = (λ p. own.0 (p ∙ sym again), λ x. own.1 x ∙ again);
       }
@@ -124,17 +125,21 @@ module _ (bytes : List ℕ) (e : (read_question bytes).outcome ≡ Accepted) whe
 module _ (bytes : List ℕ) (old : Three) where
   clashes : Clashes bytes old (clash_number bytes old) (clash_over bytes old)
   unfolding clash_number clash_written clash_over
-  clashes = go (read_question bytes).outcome (answer_in bytes) (any_short (clash_bytes (read_question bytes).question) old) refl refl refl
+  clashes =
+      rw (
+        then_by_outcome (declaring 0 0) (read_question bytes) Err (λ q. three_written (clash_bytes q) old),
+        then_by_outcome (declaring 0 0) (read_question bytes) (λ r. old) (λ q. three_over (clash_bytes q) old),
+      ) (go (outcome_of (read_question bytes)) (answer_in bytes) (any_short (clash_bytes (asked (read_question bytes))) old) refl refl refl)
     where
       q : Question
-      q = (read_question bytes).question
+      q = asked (read_question bytes)
 
-      go : (o : Check) (s : Option Solution) (short : Bool) → (read_question bytes).outcome ≡ o → answer_in bytes ≡ s → any_short (clash_bytes q) old ≡ short →
-          Clashes bytes old (clashed_number (accepted_then o NotWritten (three_written (clash_bytes q) old))) (accepted_then o (λ r. old) (three_over (clash_bytes q) old))
-      go (Refused r) s short p n h = file_refused r p refl refl
-      go Accepted s true p n h = let k = three_short (clash_bytes q) old h in too_short p h (ap clashed_number k.0) k.1
-      go Accepted none false p n h = none_ends bytes p old n h
-      go Accepted (some sol) false p n h = some_ends bytes p old sol n h
+      go : (o : Check) (s : Option Solution) (short : Bool) → outcome_of (read_question bytes) ≡ o → answer_in bytes ≡ s → any_short (clash_bytes q) old ≡ short →
+          Clashes bytes old (clashed_number (accepted_then o Err (three_written (clash_bytes q) old))) (accepted_then o (λ r. old) (three_over (clash_bytes q) old))
+      go (Err r) s short p n h = file_refused r p refl refl
+      go (Ok tt) s true p n h = let k = three_short (clash_bytes q) old h in too_short p h (ap clashed_number k.0) k.1
+      go (Ok tt) none false p n h = none_ends bytes p old n h
+      go (Ok tt) (some sol) false p n h = some_ends bytes p old sol n h
 
 -- two digits in one number, and three counts in one: they can be told apart
 upper : (n p v x y : ℕ) → p < n → x < n → v * n + p ≡ y * n + x → v ≡ y
@@ -151,8 +156,8 @@ clash_small : (bytes part indexes : List ℕ) → IsClashOf bytes part indexes �
 clash_small bytes part indexes c =
     let ok = c.part_impossible.file_accepted in
     let few = question_accepted part ok in
-    let size : length (statements (read_question part).question) ≡ length indexes = ap length c.at_indexes ∙ length-map indexes _ in
-    (omega (arith, ap length few.1, longest (read_question part).question (read_checked part ok)), omega (arith, size, statements_length (read_question part).question, few.0.few_statements))
+    let size : length (statements (asked (read_question part))) ≡ length indexes = ap length c.at_indexes ∙ length-map indexes _ in
+    (omega (arith, ap length few.1, longest (asked (read_question part)) (read_checked part ok)), omega (arith, size, statements_length (asked (read_question part)), few.0.few_statements))
 
 -- a call of `sayfudhoum_clash` on a file, with three buffers
 module _ (c : Call clash_call.Learnt) where
@@ -171,7 +176,7 @@ module _ (c : Call clash_call.Learnt) where
 
   -- each buffer has room for what is to be written into it
   abbrev pub HasRoom : Type 0
-  HasRoom = any_short (clash_bytes (read_question file).question) old ≡ false
+  HasRoom = any_short (clash_bytes (asked (read_question file))) old ≡ false
 
   -- the number has a count of indexes, which is not 0
   abbrev pub CountsIndexes : Type 0
@@ -192,7 +197,7 @@ module _ (c : Call clash_call.Learnt) where
       said (p, i, a, ph, one, ih, e) (possible sol s all fit n b) = let same = counts_one p i a 8 0 _ ph (omega arith) ih (omega arith) (sym e ∙ n) in absurd (omega (arith, one, same.1))
 
       gives : IsImpossible file → HasRoom → Clashes file old c.result new → CountsIndexes
-      gives x room (file_refused r y n b) = refused_accepted y x.file_accepted
+      gives x room (file_refused r y n b) = refused_ok y x.file_accepted
       gives x room (too_short y h n b) = never cc
       gives x room (impossible part indexes k any all fit n b) = let few = clash_small file part indexes k in (length part, length indexes, 7, few.0, any, few.1, n)
       gives x room (possible sol s all fit n b) = not_both x ((possible_shown file).1 (sol, s))
@@ -211,42 +216,42 @@ module _ (c : Call clash_call.Learnt) where
       said (p, a, ph, e) (possible sol s all fit n b) = ((possible_shown file).1 (sol, s), subst (λ t. any_short t old ≡ false) (sym all) fit)
 
       gives : IsPossible file → HasRoom → Clashes file old c.result new → CountsNone
-      gives x room (file_refused r y n b) = refused_accepted y x.file_accepted
+      gives x room (file_refused r y n b) = refused_ok y x.file_accepted
       gives x room (too_short y h n b) = never cc
       gives x room (impossible part indexes k any all fit n b) = not_both k.file_impossible x
       gives x room (possible sol s all fit n b) = (8, length (file_of (some sol)), omega arith, n)
 
   -- 10 exactly if the file is accepted and a buffer is shorter than what is to be written into it
-  pub clash_short_exactly : (c.result ≡ 10) ↔ (((read_question file).outcome ≡ Accepted) × (any_short (clash_bytes (read_question file).question) old ≡ true))
+  pub clash_short_exactly : (c.result ≡ 10) ↔ ((outcome_of (read_question file) ≡ Ok tt) × (any_short (clash_bytes (asked (read_question file))) old ≡ true))
   clash_short_exactly = (λ e. said e clash_ends, λ p. gives p.0 p.1 clash_ends)
     where
-      said : c.result ≡ 10 → Clashes file old c.result new → ((read_question file).outcome ≡ Accepted) × (any_short (clash_bytes (read_question file).question) old ≡ true)
+      said : c.result ≡ 10 → Clashes file old c.result new → (outcome_of (read_question file) ≡ Ok tt) × (any_short (clash_bytes (asked (read_question file))) old ≡ true)
       said e (file_refused r p n b) = let t = (refusal_told file r p).0 in absurd (omega (arith, e, n, t.0, t.1))
       said e (too_short p h n b) = (p, h)
       said e (impossible part indexes k any all fit n b) = absurd (omega (arith, e, n))
       said e (possible sol s all fit n b) = absurd (omega (arith, e, n))
 
-      gives : (read_question file).outcome ≡ Accepted → any_short (clash_bytes (read_question file).question) old ≡ true → Clashes file old c.result new → c.result ≡ 10
-      gives p short (file_refused r x n b) = refused_accepted x p
+      gives : outcome_of (read_question file) ≡ Ok tt → any_short (clash_bytes (asked (read_question file))) old ≡ true → Clashes file old c.result new → c.result ≡ 10
+      gives p short (file_refused r x n b) = refused_ok x p
       gives p short (too_short x h n b) = n
       gives p short (impossible part indexes k any all fit n b) = let both = sym short ∙ subst (λ t. any_short t old ≡ false) (sym all) fit in never cc
       gives p short (possible sol s all fit n b) = let both = sym short ∙ subst (λ t. any_short t old ≡ false) (sym all) fit in never cc
 
   -- another number whose lowest byte is not 0 exactly if the file is refused, with this number at this place
-  pub clash_refused_exactly : (r : Refusal) → (Tells c.result r × (r.number < 10)) ↔ ((read_question file).outcome ≡ Refused r)
+  pub clash_refused_exactly : (r : Refusal) → (Tells c.result r × (r.number < 10)) ↔ (outcome_of (read_question file) ≡ Err r)
   clash_refused_exactly r = (λ t. told t.0 t.1 clash_ends, λ p. gives p clash_ends)
     where
-      told : Tells c.result r → r.number < 10 → Clashes file old c.result new → (read_question file).outcome ≡ Refused r
-      told t small (file_refused s p n b) = p ∙ ap Refused (tells_one c.result s r (file_tells file s c.result p n).0 t)
+      told : Tells c.result r → r.number < 10 → Clashes file old c.result new → outcome_of (read_question file) ≡ Err r
+      told t small (file_refused s p n b) = p ∙ ap Err (tells_one c.result s r (file_tells file s c.result p n).0 t)
       told t small (too_short p h n b) = absurd (omega (arith, t.0, t.1, small, n))
       told t small (impossible part indexes k any all fit n b) = absurd (omega (arith, t.0, t.1, t.2, n))
       told t small (possible sol s all fit n b) = absurd (omega (arith, t.0, t.1, t.2, n))
 
-      gives : (read_question file).outcome ≡ Refused r → Clashes file old c.result new → Tells c.result r × (r.number < 10)
+      gives : outcome_of (read_question file) ≡ Err r → Clashes file old c.result new → Tells c.result r × (r.number < 10)
       gives p (file_refused s x n b) = let same : s ≡ r = cc in rw same at (file_tells file s c.result x n)
-      gives p (too_short x h n b) = refused_accepted p x
-      gives p (impossible part indexes k any all fit n b) = refused_accepted p k.file_impossible.file_accepted
-      gives p (possible sol s all fit n b) = refused_accepted p s.file_accepted
+      gives p (too_short x h n b) = refused_ok p x
+      gives p (impossible part indexes k any all fit n b) = refused_ok p k.file_impossible.file_accepted
+      gives p (possible sol s all fit n b) = refused_ok p s.file_accepted
 
   -- with any number whose lowest byte is not 0 all three buffers are as they were
   pub clash_refused_keeps : (r : Refusal) → Tells c.result r → new ≡ old

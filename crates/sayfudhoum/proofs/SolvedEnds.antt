@@ -1,5 +1,6 @@
 -- A solver's lines for C, on the contract of `sayfudhoum_solved`: the ways in which a call ends, for all bytes and lines, and what its number and its buffer say whatever the solver did.
 -- What lines say is document 02's sentence on them, and so is what they don't. SolvedExactly.antt has each way exactly if the file, the lines and the buffer are so.
+use Rattle.std.proofs.Common.{Ok, Err, None}
 use Prim.Native.Nat.{ℕ, ◌+◌, ◌*◌, ◌%◌, ◌^◌, ◌≤◌, ◌<◌}
 use mathlib.Core.Path.{◌≡◌, refl, sym, ap, ap₂, subst, fun_ext, ◌∙◌}
 use mathlib.Core.Bool.{Bool, true, false, cond}
@@ -12,8 +13,7 @@ use lib.Dec.{ltb}
 use lib.ListN.{length, take}
 use lib.Seq.{take-append_seam}
 use Rattle.outcome.specs.declared.refusals.Refusal.{Refusal}
-use Rattle.outcome.specs.declared.checks.Check.{Check}
-use Rattle.outcome.specs.declared.checks.Check.TheVariants.{Accepted, Refused}
+use Rattle.outcome.specs.Checks.{Check, outcome_of}
 use Rattle.outcome.specs.Calls.{Call}
 use Rattle.outcome.specs.Refusals.{refusal, bad_lines}
 use Rattle.outcome.specs.Writes.{over, fitted, fitted_over}
@@ -25,12 +25,11 @@ use Rattle.statement.specs.Meaning.{IsAssignment, AllHold}
 use Rattle.question.specs.declared.questions.Question.{Question}
 use Rattle.question.specs.Questions.{statements}
 use Rattle.question.specs.Checks.{IsAccepted}
-use Rattle.question_file.specs.Reads.{read_question}
+use Rattle.question_file.specs.Reads.{read_question, asked}
 use Rattle.question_file.proofs.RefusalLaws.{refusal_told}
 use Rattle.theory.specs.Solutions.{Solution}
 use Rattle.answer.specs.Bytes.{file_of}
 use Rattle.answer.proofs.AnswerLaws.{some_length}
-use Rattle.judge.specs.declared.judging.Judgement.TheVariants.{Yes}
 use Rattle.judge.specs.Models.{assigned}
 use Rattle.judge.specs.Judgements.{judged}
 use Rattle.judge.specs.Shown.{model_shown}
@@ -40,11 +39,9 @@ use Rattle.clauses.proofs.Satisfiable.{model_from}
 use Rattle.lines.specs.declared.readings.Stage.TheVariants.{Valued, Refuted}
 use Rattle.lines.specs.Sentences.{truth_in, SaysModel, SaysUnsatisfiable}
 use Rattle.lines.specs.Values.{truth_of}
-use Rattle.lines.specs.Reads.{lines_read}
+use Rattle.lines.specs.Reads.{lines_read, reading_of}
 use Rattle.lines.proofs.SentenceLaws.{accepted_says, reads_unsatisfiable, reads_model}
-use Rattle.solved.specs.declared.answers.Solved.{Solved}
-use Rattle.solved.specs.declared.answers.Solved.TheVariants.{SaidUnsatisfiable, Refused as SolvedRefused}
-use Rattle.solved.specs.Solved.{is_yes, as_solved, failed, variables_of, passed, model_solved, model_over, lines_solved, lines_over, file_solved, file_solved_over}
+use Rattle.solved.specs.Solved.{Solved, is_yes, as_solved, failed, variables_of, passed, model_solved, model_over, lines_solved, lines_over, file_solved, file_solved_over}
 use Rattle.solved.proofs.JudgingLaws.{reading_valued, reading_not_valued}
 use Rattle.solved.proofs.SolvingLaws.{lines_refused, lines_accepted, file_refused as solved_refused, file_accepted as solved_accepted}
 use Rattle.solved.proofs.Solvers.{passed_yes, not_impossible}
@@ -56,46 +53,46 @@ use Rattle.sayfudhoum.proofs.exports.sayfudhoum_solved.Reads as solved_call
 
 -- how many variables the clauses of a file's question have
 abbrev pub variables_in : List ℕ → ℕ
-variables_in bytes = variables_of (read_question bytes).question
+variables_in bytes = variables_of (asked (read_question bytes))
 
 -- the file is accepted, and the lines say a model of its clauses' variables, of which this solution is made
 pub record IsSaid (bytes lines : List ℕ) (sol : Solution) : Type 0 where
-  pub file_accepted : (read_question bytes).outcome ≡ Accepted
+  pub file_accepted : outcome_of (read_question bytes) ≡ Ok tt
   pub literals : List Literal
   pub says : SaysModel (variables_in bytes) lines literals
-  pub model : sol ≡ model_from (read_question bytes).question (truth_in literals)
+  pub model : sol ≡ model_from (asked (read_question bytes)) (truth_in literals)
 
 -- and the judge says yes to it: it is an assignment that meets every statement
 pub record IsGood (bytes lines : List ℕ) (sol : Solution) : Type 0 where
   pub said : IsSaid bytes lines sol
-  pub judged_yes : judged (read_question bytes).question (model_shown sol) ≡ Yes
-  pub assignment : IsAssignment (read_question bytes).question.elements (assigned (model_shown sol))
-  pub holding : AllHold (assigned (model_shown sol)) (statements (read_question bytes).question)
+  pub judged_yes : judged (asked (read_question bytes)) (model_shown sol) ≡ Ok None
+  pub assignment : IsAssignment (asked (read_question bytes)).elements (assigned (model_shown sol))
+  pub holding : AllHold (assigned (model_shown sol)) (statements (asked (read_question bytes)))
 
 -- the judge doesn't
 abbrev pub Fails : List ℕ → Solution → Type 0
-Fails bytes sol = judged (read_question bytes).question (model_shown sol) ≡ Yes → ⊥
+Fails bytes sol = judged (asked (read_question bytes)) (model_shown sol) ≡ Ok None → ⊥
 
 -- the ways in which `sayfudhoum_solved` ends: the number that it gives back, and the buffer that it leaves
 pub data Takes (bytes lines old : List ℕ) (number : ℕ) (new : List ℕ) : Type 0 where
-  file_refused : (r : Refusal) → (read_question bytes).outcome ≡ Refused r → number ≡ r.place * 256 + r.number → new ≡ old → Takes bytes lines old number new
-  unformed_lines : (at : ℕ) → (read_question bytes).outcome ≡ Accepted → (lines_read (variables_in bytes) lines).outcome ≡ Refused (refusal bad_lines at) → at ≤ length lines → number ≡ at % 2 ^ 56 * 256 + 13 → new ≡ old →
+  file_refused : (r : Refusal) → outcome_of (read_question bytes) ≡ Err r → number ≡ r.place * 256 + r.number → new ≡ old → Takes bytes lines old number new
+  unformed_lines : (at : ℕ) → outcome_of (read_question bytes) ≡ Ok tt → outcome_of (lines_read (variables_in bytes) lines) ≡ Err (refusal bad_lines at) → at ≤ length lines → number ≡ at % 2 ^ 56 * 256 + 13 → new ≡ old →
       Takes bytes lines old number new
-  unsatisfiable : (read_question bytes).outcome ≡ Accepted → SaysUnsatisfiable lines → number ≡ 0 → new ≡ old → Takes bytes lines old number new
+  unsatisfiable : outcome_of (read_question bytes) ≡ Ok tt → SaysUnsatisfiable lines → number ≡ 0 → new ≡ old → Takes bytes lines old number new
   model_failing : (sol : Solution) → IsSaid bytes lines sol → Fails bytes sol → number ≡ 14 → new ≡ old → Takes bytes lines old number new
   too_short : (sol : Solution) → IsGood bytes lines sol → length old < length (file_of (some sol)) → number ≡ 10 → new ≡ old → Takes bytes lines old number new
   answered : (sol : Solution) → IsGood bytes lines sol → length (file_of (some sol)) ≤ length old → number ≡ length (file_of (some sol)) * 256 → new ≡ over (file_of (some sol)) old → Takes bytes lines old number new
 
 -- a model that is said of an accepted file
-module _ (bytes lines : List ℕ) (e : (read_question bytes).outcome ≡ Accepted) where
+module _ (bytes lines : List ℕ) (e : outcome_of (read_question bytes) ≡ Ok tt) where
   abbrev q : Question
-  q = (read_question bytes).question
+  q = asked (read_question bytes)
 
   is : IsAccepted q
   is = (question_accepted bytes e).0
 
   -- the judge says yes to it
-  pub said_good : (sol : Solution) → IsSaid bytes lines sol → judged q (model_shown sol) ≡ Yes → IsGood bytes lines sol
+  pub said_good : (sol : Solution) → IsSaid bytes lines sol → judged q (model_shown sol) ≡ Ok None → IsGood bytes lines sol
   said_good sol s j =
       let sound = (yes_means q (model_shown sol)).0 j in
       record { said = s; judged_yes = j; assignment = model_assigns q.elements q.sets (model_shown sol) sound.model; holding = sound.all_hold }
@@ -109,20 +106,20 @@ module _ (bytes lines : List ℕ) (e : (read_question bytes).outcome ≡ Accepte
 
     -- the file first
     behind_file : (file_solved bytes lines (length old) ≡ lines_solved q lines (length old)) × (file_solved_over bytes lines old ≡ lines_over q lines old)
-    behind_file = solved_accepted bytes lines old {read = read_question bytes} refl e
+    behind_file = solved_accepted bytes lines old e
 
-    lines_bad : (r : Refusal) → (lines_read (variables_of q) lines).outcome ≡ Refused r → Takes bytes lines old (solved_number bytes lines (length old)) (file_solved_over bytes lines old)
+    lines_bad : (r : Refusal) → outcome_of (lines_read (variables_of q) lines) ≡ Err r → Takes bytes lines old (solved_number bytes lines (length old)) (file_solved_over bytes lines old)
     lines_bad r p =
-        let l = lines_refused q lines old refl p in
+        let l = lines_refused q lines old p in
         let at = lines_place (variables_of q) lines r p in
-        came (SolvedRefused r) old (behind_file.0 ∙ l.0) (behind_file.1 ∙ l.1)
-        (unformed_lines r.place e (p ∙ ap (λ n. Refused (refusal n r.place)) at.0) at.1 (ap (λ n. r.place % 2 ^ 56 * 256 + n) at.0) refl)
+        came (Err r) old (behind_file.0 ∙ l.0) (behind_file.1 ∙ l.1)
+        (unformed_lines r.place e (p ∙ ap (λ n. Err (refusal n r.place)) at.0) at.1 (ap (λ n. r.place % 2 ^ 56 * 256 + n) at.0) refl)
 
-    lines_word : (lines_read (variables_of q) lines).outcome ≡ Accepted → (lines_read (variables_of q) lines).reading.stage ≡ Refuted → Takes bytes lines old (solved_number bytes lines (length old)) (file_solved_over bytes lines old)
+    lines_word : outcome_of (lines_read (variables_of q) lines) ≡ Ok tt → (reading_of (lines_read (variables_of q) lines)).stage ≡ Refuted → Takes bytes lines old (solved_number bytes lines (length old)) (file_solved_over bytes lines old)
     lines_word p s =
-        let l = lines_accepted q lines old refl p in
-        let w = reading_not_valued q (lines_read (variables_of q) lines).reading old (λ v. let both = sym s ∙ v in never cc) in
-        came SaidUnsatisfiable old (behind_file.0 ∙ l.0 ∙ w.0) (behind_file.1 ∙ l.1 ∙ w.1)
+        let l = lines_accepted q lines old p in
+        let w = reading_not_valued q (reading_of (lines_read (variables_of q) lines)) old (λ v. let both = sym s ∙ v in never cc) in
+        came (Ok None) old (behind_file.0 ∙ l.0 ∙ w.0) (behind_file.1 ∙ l.1 ∙ w.1)
         (unsatisfiable e (reads_unsatisfiable (variables_of q) lines p s) refl refl)
 
     -- the model that they say
@@ -158,33 +155,33 @@ module _ (bytes lines : List ℕ) (e : (read_question bytes).outcome ≡ Accepte
       by_judge true p = passing p
       by_judge false p = failing p
 
-    lines_model : (lines_read (variables_of q) lines).outcome ≡ Accepted → (lines_read (variables_of q) lines).reading.stage ≡ Valued → Takes bytes lines old (solved_number bytes lines (length old)) (file_solved_over bytes lines old)
+    lines_model : outcome_of (lines_read (variables_of q) lines) ≡ Ok tt → (reading_of (lines_read (variables_of q) lines)).stage ≡ Valued → Takes bytes lines old (solved_number bytes lines (length old)) (file_solved_over bytes lines old)
     lines_model p s =
-        let l = lines_accepted q lines old refl p in
-        let w = reading_valued q (lines_read (variables_of q) lines).reading old s in
+        let l = lines_accepted q lines old p in
+        let w = reading_valued q (reading_of (lines_read (variables_of q) lines)) old s in
         let m = reads_model (variables_of q) lines (few_variables q is) p s in
-        let same : model_from q (truth_of (lines_read (variables_of q) lines).reading.values) ≡ model_from q (truth_in m.0) = ap (model_from q) (fun_ext m.2) in
+        let same : model_from q (truth_of (reading_of (lines_read (variables_of q) lines)).values) ≡ model_from q (truth_in m.0) = ap (model_from q) (fun_ext m.2) in
         let said : IsSaid bytes lines (model_from q (truth_in m.0)) = record { file_accepted = e; literals = m.0; says = m.1; model = refl } in
         by_judge (model_from q (truth_in m.0)) said (behind_file.0 ∙ l.0 ∙ w.0 ∙ ap (λ sol. model_solved q sol (length old)) same) (behind_file.1 ∙ l.1 ∙ w.1 ∙ ap (λ sol. model_over q sol old) same)
         (passed q (model_from q (truth_in m.0))) refl
 
-    by_lines : (o : Check) → (lines_read (variables_of q) lines).outcome ≡ o → Takes bytes lines old (solved_number bytes lines (length old)) (file_solved_over bytes lines old)
-    by_lines (Refused r) p = lines_bad r p
-    by_lines Accepted p = go (accepted_says (variables_of q) lines p)
+    by_lines : (o : Check) → outcome_of (lines_read (variables_of q) lines) ≡ o → Takes bytes lines old (solved_number bytes lines (length old)) (file_solved_over bytes lines old)
+    by_lines (Err r) p = lines_bad r p
+    by_lines (Ok tt) p = go (accepted_says (variables_of q) lines p)
       where
-        go : ((lines_read (variables_of q) lines).reading.stage ≡ Valued) ⊎ ((lines_read (variables_of q) lines).reading.stage ≡ Refuted) → Takes bytes lines old (solved_number bytes lines (length old)) (file_solved_over bytes lines old)
+        go : ((reading_of (lines_read (variables_of q) lines)).stage ≡ Valued) ⊎ ((reading_of (lines_read (variables_of q) lines)).stage ≡ Refuted) → Takes bytes lines old (solved_number bytes lines (length old)) (file_solved_over bytes lines old)
         go (inl s) = lines_model p s
         go (inr s) = lines_word p s
 
 module _ (bytes lines old : List ℕ) where
   takes : Takes bytes lines old (solved_number bytes lines (length old)) (file_solved_over bytes lines old)
   unfolding solved_number
-  takes = go (read_question bytes).outcome refl
+  takes = go (outcome_of (read_question bytes)) refl
     where
-      go : (o : Check) → (read_question bytes).outcome ≡ o → Takes bytes lines old (as_number (file_solved bytes lines (length old))) (file_solved_over bytes lines old)
-      go Accepted p = by_lines bytes lines p old (lines_read (variables_in bytes) lines).outcome refl
-      go (Refused r) p =
-          let k = solved_refused bytes lines old {read = read_question bytes} refl p in
+      go : (o : Check) → outcome_of (read_question bytes) ≡ o → Takes bytes lines old (as_number (file_solved bytes lines (length old))) (file_solved_over bytes lines old)
+      go (Ok tt) p = by_lines bytes lines p old (outcome_of (lines_read (variables_in bytes) lines)) refl
+      go (Err r) p =
+          let k = solved_refused bytes lines old p in
           let small = (refusal_told bytes r p).1 in
           subst (λ y. Takes bytes lines old (as_number y) (file_solved_over bytes lines old)) (sym k.0) (file_refused r p (place_told r (omega (arith, small))) k.1)
 

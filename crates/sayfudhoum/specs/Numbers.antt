@@ -1,25 +1,16 @@
 -- The one number that a call for C gives back: its lowest byte is the refusal number, or 0; the rest is the place, the count of bytes, the three counts of a clash, the verdict, or the index of a statement.
-use Rattle.std.specs.Prelude.{ℕ, ◌+◌, ◌*◌, ◌%◌, ◌^◌, ◌≤◌, ◌<◌, List}
+use Rattle.std.specs.Prelude.{ℕ, ◌+◌, ◌*◌, ◌%◌, ◌^◌, ◌≤◌, ◌<◌, List, Result, Ok, Err, None, Some}
 use Rattle.outcome.specs.declared.refusals.Refusal.{Refusal}
-use Rattle.outcome.specs.declared.writes.Written.{Written}
-use Rattle.outcome.specs.declared.writes.Written.TheVariants.{Count, Refused as NotWritten}
+use Rattle.outcome.specs.Writes.{Written}
 use Rattle.outcome.specs.Verdicts.{verdict_byte}
-use Rattle.outcome.specs.declared.checks.Check.{Check}
-use Rattle.outcome.specs.declared.checks.Check.TheVariants.{Accepted, Refused}
 use Rattle.question.specs.Limits.{max_statements}
-use Rattle.judge.specs.declared.judging.Judgement.{Judgement}
-use Rattle.judge.specs.declared.judging.Judgement.TheVariants.{Yes, No, Refused as NotJudged}
-use Rattle.judge.specs.Judgements.{all_hold}
+use Rattle.judge.specs.Judgements.{Judgement, all_hold}
 use Rattle.model_file.specs.Judges.{file_judged}
-use Rattle.decision.specs.declared.decisions.Decision.{Decision}
-use Rattle.clash.specs.declared.files.ClashWritten.{ClashWritten}
-use Rattle.clash.specs.declared.files.ClashWritten.TheVariants.{Counts, Refused as ClashRefused}
-use Rattle.clash.specs.Files.{Three, clash_written}
+use Rattle.answer.specs.declared.answers.Answer.{Answer}
+use Rattle.clash.specs.Files.{ClashWritten, Three, clash_written}
 use Rattle.clauses.specs.Texts.{longest_clauses}
 use Rattle.dimacs.specs.Writes.{file_clauses}
-use Rattle.solved.specs.declared.answers.Solved.{Solved}
-use Rattle.solved.specs.declared.answers.Solved.TheVariants.{Answered, SaidUnsatisfiable, Refused as SolvedRefused}
-use Rattle.solved.specs.Solved.{file_solved}
+use Rattle.solved.specs.Solved.{Solved, file_solved}
 use Rattle.sayfudhoum.specs.Files.{file_decided, answered}
 
 -- a refusal: its place, and its number in the lowest byte
@@ -28,24 +19,21 @@ refusal_number r = r.place * 256 + r.number
 
 -- a count of bytes, or the refusal
 abbrev pub written_number : Written → ℕ
-written_number (Count n) = n * 256
-written_number (NotWritten r) = refusal_number r
+written_number (Ok n) = n * 256
+written_number (Err r) = refusal_number r
 
 -- 1 for possible and 0 for impossible, or the refusal
-abbrev pub outcome_number : Check → ℕ → ℕ
-outcome_number Accepted verdict = verdict * 256
-outcome_number (Refused r) verdict = refusal_number r
-
-abbrev pub decision_number : Decision → ℕ
-decision_number d = outcome_number d.outcome (verdict_byte d.answer.verdict)
+abbrev pub decision_number : Result Answer Refusal → ℕ
+decision_number (Ok a) = verdict_byte a.verdict * 256
+decision_number (Err r) = refusal_number r
 
 -- the three counts of a clash: the bytes of the part, the indexes above 16 bits, and the bytes of the answer above 24
 abbrev pub counts_number : ℕ → ℕ → ℕ → ℕ
 counts_number part indexes answer = (part + indexes * 2 ^ 16 + answer * 2 ^ 24) * 256
 
 abbrev pub clashed_number : ClashWritten → ℕ
-clashed_number (Counts part indexes answer) = counts_number part indexes answer
-clashed_number (ClashRefused r) = refusal_number r
+clashed_number (Ok n) = counts_number n.part n.indexes n.answer
+clashed_number (Err r) = refusal_number r
 
 -- a refusal whose place may lie anywhere in a solver's lines: the place in the 56 bits of the rest
 abbrev pub placed_number : Refusal → ℕ
@@ -53,15 +41,15 @@ placed_number r = r.place % 2 ^ 56 * 256 + r.number
 
 -- the bytes of the answer, 0 for the solver's word, or the refusal
 abbrev pub as_number : Solved → ℕ
-as_number (Answered n) = n * 256
-as_number SaidUnsatisfiable = 0
-as_number (SolvedRefused r) = placed_number r
+as_number (Ok (Some n)) = n * 256
+as_number (Ok None) = 0
+as_number (Err r) = placed_number r
 
 -- the index of the first statement that fails, 64 if all hold, or the refusal
 abbrev pub judgement_number : Judgement → ℕ
-judgement_number Yes = all_hold * 256
-judgement_number (No i) = i * 256
-judgement_number (NotJudged r) = refusal_number r
+judgement_number (Ok None) = all_hold * 256
+judgement_number (Ok (Some i)) = i * 256
+judgement_number (Err r) = refusal_number r
 
 -- what `sayfudhoum_answer` gives back, where there is room for so many bytes
 unfoldable pub answer_number : List ℕ → ℕ → ℕ
@@ -94,24 +82,24 @@ max_place = 392
 abbrev pub max_count : ℕ
 max_count = longest_clauses
 
-abbrev pub IsSmall : Check → Type 0
-IsSmall Accepted = Unit {0}
-IsSmall (Refused r) = r.place ≤ max_place
+abbrev pub IsSmall : Result Answer Refusal → Type 0
+IsSmall (Ok a) = Unit {0}
+IsSmall (Err r) = r.place ≤ max_place
 
 abbrev pub IsShort : Written → Type 0
-IsShort (Count n) = n ≤ max_count
-IsShort (NotWritten r) = r.place ≤ max_place
+IsShort (Ok n) = n ≤ max_count
+IsShort (Err r) = r.place ≤ max_place
 
 abbrev pub IsFew : ClashWritten → Type 0
-IsFew (Counts part indexes answer) = (part ≤ max_place) × (indexes ≤ max_statements) × (answer ≤ max_place)
-IsFew (ClashRefused r) = r.place ≤ max_place
+IsFew (Ok n) = (n.part ≤ max_place) × (n.indexes ≤ max_statements) × (n.answer ≤ max_place)
+IsFew (Err r) = r.place ≤ max_place
 
 abbrev pub IsBrief : Solved → Type 0
-IsBrief (Answered n) = n ≤ max_place
-IsBrief SaidUnsatisfiable = Unit {0}
-IsBrief (SolvedRefused r) = Unit {0}
+IsBrief (Ok (Some n)) = n ≤ max_place
+IsBrief (Ok None) = Unit {0}
+IsBrief (Err r) = Unit {0}
 
 abbrev pub IsIndexed : Judgement → Type 0
-IsIndexed Yes = Unit {0}
-IsIndexed (No i) = i < max_statements
-IsIndexed (NotJudged r) = r.place ≤ max_place
+IsIndexed (Ok None) = Unit {0}
+IsIndexed (Ok (Some i)) = i < max_statements
+IsIndexed (Err r) = r.place ≤ max_place

@@ -8,7 +8,7 @@ ghost use Rattle.sayfudhoum.specs.Numbers.{answer_number, verdict_number, clash_
 
 use crate::files::{answer_file, decide_file};
 use crate::numbers::{
-    clash_number, judgement_number, outcome_number, solved_number, written_number,
+    clash_number, decision_number, judgement_number, solved_number, written_number,
 };
 use clash::clash_file;
 use dimacs::clauses_file;
@@ -27,11 +27,7 @@ pub fn sayfudhoum_answer(question: &[u8], answer: &mut [u8]) -> u64
 pub fn sayfudhoum_verdict(question: &[u8]) -> u64
     ensures { result ≡ verdict_number question.now }
 {
-    let decision = decide_file(question);
-    let outcome = decision.outcome;
-    let answer = decision.answer;
-    let verdict = answer.verdict;
-    outcome_number(outcome, verdict)
+    decision_number(decide_file(question))
 }
 
 // Question bytes to the file of the clashing part, its indexes and the question's answer: the three counts of what was written, or the refusal.

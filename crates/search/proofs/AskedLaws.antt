@@ -1,12 +1,12 @@
 -- A walk over the entries that keeps a group of the terms that the rows passed ask for.
-use Prim.Native.Nat.{ℕ, suc, ◌+◌, ◌≤◌, ◌<◌}
+use Prim.Native.Nat.{ℕ, suc, ◌+◌, ◌<◌}
 use mathlib.Core.Path.{◌≡◌}
 use mathlib.Core.Bool.{Bool, true}
 use mathlib.Core.List.{List}
 use native.Mathlib.Numerals.{add-one}
 use lib.Bits.{bit_or}
 use lib.Dec.{T}
-use lib.ListN.{length, get_or, drop, drop_of_length-le}
+use lib.ListN.{length, get_or, drop}
 use lib.Seq.{drop-cons}
 use Rattle.question.specs.Masks.{bit}
 use Rattle.statement.proofs.TestLaws.{T_true, true_T}
@@ -25,9 +25,6 @@ module _ (entries : List ℕ) where
   abbrev pub Enough : ℕ → ℕ → Type 0
   Enough asked i = (known : ℕ → Bool) → ((d : ℕ) → T (bit asked d) → T (known d)) → T (all_asked_known asks known (rows_of_entries (drop i entries))) → T (all_asked_known asks known (rows_of_entries entries))
 
-  pub enough_start : Enough 0 0
-  enough_start known sub h = h
-
   pub enough_turn : (asked i one : ℕ) → i < length entries → ((c : ℕ) → T (bit (terms_in (get_or entries i 0)) c) → T (asked_known asks (bit one) c (test_in (get_or entries i 0)))) → Enough asked i → Enough (bit_or asked one) (i + 1)
   enough_turn asked i one inside this before known sub h =
       let e = get_or entries i 0 in
@@ -35,6 +32,3 @@ module _ (entries : List ℕ) where
       let in_one : (d : ℕ) → T (bit one d) → T (known d) = λ d b. sub d (T_true (or_right asked one d (true_T (bit one d) b))) in
       let these : all_rows f (rows_of_entry e) ≡ true = entry_pass f e (λ c b. true_T (asked_known asks known c (test_in e)) (known_more asks (bit one) known in_one c (test_in e) (this c (T_true b)))) in
       before known (λ d b. sub d (T_true (or_left asked one d (true_T (bit asked d) b)))) (rw (drop-cons entries i 0 inside, all_append f (rows_of_entry e) (rows_of_entries (drop (suc i) entries)), these) (rw add-one at h))
-
-  pub enough_end : (asked i : ℕ) → length entries ≤ i → Enough asked i → T (all_asked_known asks (bit asked) (rows_of_entries entries))
-  enough_end asked i past before = before (bit asked) (λ d b. b) (rw (drop_of_length-le entries {i = i} past) tt)

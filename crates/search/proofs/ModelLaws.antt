@@ -6,9 +6,9 @@ use mathlib.Core.Option.{Option, none, some, map, none-ne-some, some-ne-none, so
 use native.Mathlib.Omega.{arith}
 use native.Mathlib.Decide.{dec_lt}
 use lib.Dec.{T}
+use Rattle.std.proofs.Common.{Some, None}
 use lib.ListN.{length, get_or, take, set}
 use lib.Seq.{ext_get_or, get_or-take, length-take-le, get_or-set_same, get_or-set_other}
-use Rattle.outcome.specs.declared.checks.Check.TheVariants.{Accepted}
 use Rattle.question.specs.Limits.{max_terms}
 use Rattle.theory.specs.Lists.{Every}
 use Rattle.theory.specs.Arrangements.{classes}
@@ -22,9 +22,7 @@ use Rattle.cut.specs.Members.{members}
 use Rattle.cut.specs.Families.{Within}
 use Rattle.cut.proofs.WholeLaws.{mask_whole}
 use Rattle.cut.proofs.SetLaws.{set_tests, declared_within}
-use Rattle.outcome.specs.declared.verdicts.Verdict.TheVariants.{Possible, Impossible}
-use Rattle.search.specs.declared.answers.SearchAnswer.{SearchAnswer}
-use Rattle.search.specs.Answers.{without_model, answer_of}
+use Rattle.search.specs.Answers.{shown}
 use Rattle.search.specs.Placings.{Placing}
 use Rattle.search.specs.Memos.{mask_of_group}
 use Rattle.search.proofs.PlacingLaws.{RestZero, rest_padded, placed_length, placing_padded}
@@ -54,9 +52,6 @@ smallest entries sets l = smallest_mask fits (2 ^ sets) (rows_of_entries entries
 abbrev pub MasksTo : List ℕ → ℕ → List ℕ → ℕ → List ℕ → Type 0
 MasksTo entries sets l k masks = (i : ℕ) → i < k → smallest entries sets l i ≡ some (get_or masks i 0)
 
-pub no_masks_yet : (entries : List ℕ) (sets : ℕ) (l masks : List ℕ) → MasksTo entries sets l 0 masks
-no_masks_yet entries sets l masks i lt = absurd (omega arith)
-
 module _ (entries : List ℕ) (sets : ℕ) (arrangement : List ℕ) (terms used : ℕ) (here : Placing arrangement terms used) (declared : T (all_rows (row_declared terms sets) (rows_of_entries entries))) where
   -- the arrangement
   abbrev l : List ℕ
@@ -67,9 +62,9 @@ module _ (entries : List ℕ) (sets : ℕ) (arrangement : List ℕ) (terms used 
 
   module _ (k class : ℕ) (is : class ≡ members l k) where
     -- a class has none
-    pub model_none : (r : SearchAnswer) → k < used → mask_of_group entries sets class ≡ none → r ≡ without_model Accepted Impossible → r ≡ answer_of (model_of fits (2 ^ sets) (rows_of_entries entries) l)
-    unfolding model_of answer_of
-    model_none r lt e i = i ∙ ap (λ o. answer_of (map (with_masks l) o)) (sym (each_none (classes l) (smallest entries sets l) k (omega (arith, here.counted)) (smallest_is k ∙ ap (mask_of_group entries sets) (sym is) ∙ e)))
+    pub model_none : k < used → mask_of_group entries sets class ≡ none → None ≡ shown (model_of fits (2 ^ sets) (rows_of_entries entries) l)
+    unfolding model_of
+    model_none lt e = ap (λ o. shown (map (with_masks l) o)) (sym (each_none (classes l) (smallest entries sets l) k (omega (arith, here.counted)) (smallest_is k ∙ ap (mask_of_group entries sets) (sym is) ∙ e)))
 
     -- one mask more
     pub model_more : (masks : List ℕ) (m : ℕ) → k < length masks → mask_of_group entries sets class ≡ some m → MasksTo entries sets l k masks → MasksTo entries sets l (k + 1) (set masks k m)
@@ -81,10 +76,10 @@ module _ (entries : List ℕ) (sets : ℕ) (arrangement : List ℕ) (terms used 
             ap (smallest entries sets l) q ∙ smallest_is k ∙ ap (mask_of_group entries sets) (sym is) ∙ e ∙ ap (λ (x : ℕ). some x) (sym (ap (λ j. get_or (set masks k m) j 0) q ∙ get_or-set_same masks k m 0 lt))
 
   -- every class has one
-  pub model_all : (masks : List ℕ) (r : SearchAnswer) → length masks ≡ max_terms → RestZero used masks → MasksTo entries sets l used masks →
-      r ≡ record { outcome = Accepted; verdict = Possible; classes = used; arrangement = arrangement; masks = masks } → r ≡ answer_of (model_of fits (2 ^ sets) (rows_of_entries entries) l)
-  unfolding model_of answer_of
-  model_all masks r long zero_rest each i = i ∙ shown ∙ ap (λ o. answer_of (map (with_masks l) o)) (sym all)
+  pub model_all : (masks : List ℕ) → length masks ≡ max_terms → RestZero used masks → MasksTo entries sets l used masks →
+      Some (record { classes = used; arrangement = arrangement; masks = masks }) ≡ shown (model_of fits (2 ^ sets) (rows_of_entries entries) l)
+  unfolding model_of
+  model_all masks long zero_rest each = as_shown ∙ ap (λ o. shown (map (with_masks l) o)) (sym all)
     where
       few : used ≤ max_terms
       few = omega (arith, here.few_classes, here.few_terms)
@@ -93,5 +88,5 @@ module _ (entries : List ℕ) (sets : ℕ) (arrangement : List ℕ) (terms used 
       all = each_some (classes l) (smallest entries sets l) (take used masks) (length-take-le used masks (omega arith) ∙ here.counted)
           (λ k lt. let inside : k < used = omega (arith, here.counted) in each k inside ∙ ap (λ (x : ℕ). some x) (sym (get_or-take used masks k 0 inside)))
 
-      shown : record { outcome = Accepted; verdict = Possible; classes = used; arrangement = arrangement; masks = masks } ≡ answer_of (some (with_masks l (take used masks)))
-      shown = cc (here.counted, placing_padded here, rest_padded masks used long few zero_rest)
+      as_shown : Some (record { classes = used; arrangement = arrangement; masks = masks }) ≡ shown (some (with_masks l (take used masks)))
+      as_shown = cc (here.counted, placing_padded here, rest_padded masks used long few zero_rest)

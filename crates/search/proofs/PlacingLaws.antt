@@ -1,6 +1,6 @@
 -- Where the search stands: at the start, and with one term more placed; and the array that shows it.
 use Prim.Native.Nat.{ℕ, suc, ◌+◌, ◌-◌, ◌≤◌, ◌<◌, max}
-use mathlib.Core.Path.{◌≡◌, refl, sym, ap, subst, ◌∙◌}
+use mathlib.Core.Path.{◌≡◌, sym, ap, subst, ◌∙◌}
 use mathlib.Core.List.{List, [], ◌∷◌, ◌++◌}
 use native.Mathlib.Omega.{arith}
 use native.Mathlib.Numerals.{add-one}
@@ -24,9 +24,6 @@ rest_padded l n long le z = sym (take-append-drop n l) ∙ ap (λ r. take n l ++
 pub rest_set : (l : List ℕ) (n v : ℕ) → n < max_terms → RestZero n l → RestZero (n + 1) (set l n v)
 rest_set l n v lt z = let e : max_terms - n ≡ suc (max_terms - (n + 1)) = omega arith in
     drop-set-lt (n + 1) l n v (omega arith) ∙ sym (drop-drop 1 n l) ∙ ap (drop 1) z ∙ ap (λ m. drop 1 (replicate m 0)) e
-
-pub placing_start : Placing (padded max_terms []) 0 0
-placing_start = record { long = refl; few_terms = omega arith; few_classes = omega arith; counted = refl; rest_zero = refl }
 
 module _ {arrangement : List ℕ} {placed used : ℕ} (here : Placing arrangement placed used) where
   -- how many terms are placed

@@ -1,12 +1,13 @@
--- One call of the recursion: how it ends, how its loop over the class numbers goes, and what each call inside it is about.
+-- One call of the recursion: how its loop over the class numbers goes, and what the calls inside it are about.
 use Prim.Native.Nat.{ℕ, suc, ◌+◌, ◌-◌, ◌^◌, ◌≤◌, ◌<◌}
-use mathlib.Core.Path.{◌≡◌, refl, sym, ap, subst, ◌∙◌}
-use mathlib.Core.Bool.{Bool, true, false, true≢false, false≢true}
+use mathlib.Core.Path.{◌≡◌, refl, sym, ap, ◌∙◌}
+use mathlib.Core.Bool.{true, false, true≢false, false≢true}
 use mathlib.Core.List.{List, [], ◌∷◌, ◌++◌}
-use mathlib.Core.Option.{Option, none, some}
+use mathlib.Core.Option.{Option as Possibly, none, some}
 use native.Mathlib.Omega.{arith}
 use lib.ListN.{take, set}
-use Rattle.outcome.specs.declared.checks.Check.TheVariants.{Accepted}
+use Rattle.std.proofs.Common.{Option, None, is_some}
+use Rattle.outcome.proofs.Never.{never}
 use Rattle.question.specs.Limits.{max_terms}
 use Rattle.theory.specs.Searches.{first_from}
 use Rattle.theory.specs.Solutions.{Solution}
@@ -16,98 +17,62 @@ use Rattle.theory.proofs.LoopLaws.{FromHere, loop_start, loop_miss, loop_hit, lo
 use Rattle.mask.specs.Entries.{rows_of_entries}
 use Rattle.cut.specs.Behind.{found_behind}
 use Rattle.cut.proofs.BehindLaws.{behind_all, behind_step}
-use Rattle.outcome.specs.declared.verdicts.Verdict.TheVariants.{Impossible}
-use Rattle.search.specs.declared.answers.SearchAnswer.{SearchAnswer}
-use Rattle.search.specs.Answers.{is_possible, without_model, answer_of}
-use Rattle.search.specs.declared.steps.Fixed.{Fixed}
-use Rattle.search.specs.declared.steps.Span.{Span}
+use Rattle.search.specs.declared.answers.Found.{Found}
+use Rattle.search.specs.Answers.{shown}
+use Rattle.search.specs.Tasks.{Task}
 use Rattle.search.specs.Placings.{Placing, found}
-use Rattle.search.specs.Memos.{Memo}
-use Rattle.search.specs.Steps.{all_terms, AskedAre, Ready}
 use Rattle.search.proofs.PlacingLaws.{next_taken}
 
--- the numbers of a call that has a term left: with that term placed there are as many terms, and fewer left
-module _ (placed left : ℕ) (not_all : left ≡ 0 → ⊥) where
-  pub some_left : 0 < left
-  some_left = omega arith
+-- what shows a model, and what shows none
+pub shows_none : (o : Possibly Solution) → None ≡ shown o → o ≡ none
+shows_none none e = refl
+shows_none (some sol) e = never cc
 
-  pub room : placed + left ≤ max_terms → placed < max_terms
-  room few = omega arith
+abbrev pub modelled : Task → List ℕ → Possibly Solution
+modelled task l = model_of fits (2 ^ task.sets) (rows_of_entries task.entries) l
 
-  pub as_many : placed + left ≡ placed + 1 + (left - 1)
-  as_many = omega arith
-
-  pub fewer : (t : ℕ) → left ≡ t → left - 1 < t
-  fewer t e = omega arith
-
--- what a call may rely on where the memo has changed, where the same terms are counted from another one on, and for the terms behind the first
-pub ready_again : {entries memo : List ℕ} {fixed : Fixed} {span : Span} → Ready entries fixed memo span → {now : List ℕ} → Memo entries fixed.sets now → Ready entries fixed now span
-ready_again ready right = record { few_sets = ready.few_sets; few_terms = ready.few_terms; remembered = right; asked_are = ready.asked_are }
-
-pub ready_same : {entries memo : List ℕ} {fixed : Fixed} {span other : Span} → Ready entries fixed memo span → all_terms span ≡ all_terms other → Ready entries fixed memo other
-ready_same {entries} {memo} {fixed} ready same = record {
-  few_sets = ready.few_sets;
-  few_terms = subst (λ n. n ≤ max_terms) same ready.few_terms;
-  remembered = ready.remembered;
-  asked_are = subst (AskedAre entries fixed.asked) same ready.asked_are;
-}
-
-abbrev pub behind_first : Span → Span
-behind_first s = record { term = s.term + 1; left = s.left - 1 }
-
-pub ready_next : {entries memo : List ℕ} {fixed : Fixed} {span : Span} → Ready entries fixed memo span → (span.left ≡ 0 → ⊥) → {now : List ℕ} → Memo entries fixed.sets now → Ready entries fixed now (behind_first span)
-ready_next {entries} {memo} {fixed} {span} ready not_all right = ready_same (ready_again ready right) (as_many span.term span.left not_all)
-
-pub none_left : (placed left : ℕ) → left ≡ 0 → placed + left ≡ placed
-none_left placed left e = omega arith
-
-module _ (entries : List ℕ) (sets : ℕ) (arrangement : List ℕ) (placed left used : ℕ) where
-  -- what is found with the next term in the class c
-  abbrev pub found_in : ℕ → Option Solution
-  found_in c = found_behind fits (2 ^ sets) (rows_of_entries entries) (take placed arrangement ++ (c ∷ [])) (left - 1)
-
-  -- the loop stands before the class c: what is found is what is found from there on
-  abbrev pub Before : ℕ → Type 0
-  Before c = FromHere (suc used) found_in (found entries sets arrangement placed left) c
-
-  -- nothing is found
-  pub answer_none : (r : SearchAnswer) → r ≡ without_model Accepted Impossible → found entries sets arrangement placed left ≡ none → r ≡ answer_of (found entries sets arrangement placed left)
-  unfolding answer_of
-  answer_none r is e = is ∙ ap answer_of (sym e)
-
+module _ (task : Task) (arrangement : List ℕ) (placed : ℕ) where
   -- no term is left: the model of the arrangement
-  pub answer_whole : (r : SearchAnswer) → left ≡ 0 → r ≡ answer_of (model_of fits (2 ^ sets) (rows_of_entries entries) (take placed arrangement)) → r ≡ answer_of (found entries sets arrangement placed left)
-  answer_whole r e is = is ∙ ap answer_of (sym (ap (found entries sets arrangement placed) e ∙ behind_all fits (2 ^ sets) (rows_of_entries entries) (take placed arrangement)))
+  pub whole : placed ≡ task.terms → found task arrangement placed ≡ modelled task (take placed arrangement)
+  whole e = let none_left : task.terms - placed ≡ 0 = omega arith in
+      ap (found_behind fits (2 ^ task.sets) (rows_of_entries task.entries) (take placed arrangement)) none_left ∙ behind_all fits (2 ^ task.sets) (rows_of_entries task.entries) (take placed arrangement)
 
-  module _ (here : Placing arrangement placed used) where
-    pub before_first : 0 < left → Before 0
-    before_first more = let e : left ≡ suc (left - 1) = omega arith in
-        loop_start (suc used) found_in (found entries sets arrangement placed left) (ap (found entries sets arrangement placed) e
-        ∙ behind_step fits (2 ^ sets) (rows_of_entries entries) (take placed arrangement) (left - 1) ∙ ap (λ u. first_from (suc u) 0 found_in) (sym here.counted))
+  -- what is found with the next term in the class c
+  abbrev pub found_in : ℕ → Possibly Solution
+  found_in c = found_behind fits (2 ^ task.sets) (rows_of_entries task.entries) (take placed arrangement ++ (c ∷ [])) (task.terms - (placed + 1))
 
-    -- the call with the next term in the class c is about that
-    pub answer_next : (c : ℕ) (r : SearchAnswer) → placed < max_terms → r ≡ answer_of (found entries sets (set arrangement placed c) (placed + 1) (left - 1)) → r ≡ answer_of (found_in c)
-    answer_next c r room is = is ∙ ap (λ p. answer_of (found_behind fits (2 ^ sets) (rows_of_entries entries) p (left - 1))) (next_taken here c room)
+  module _ (used : ℕ) where
+    -- the loop stands before the class c: what is found is what is found from there on
+    abbrev pub Before : ℕ → Type 0
+    Before c = FromHere (suc used) found_in (found task arrangement placed) c
 
-  module _ (c : ℕ) (r : SearchAnswer) (allowed : c ≤ used) (is : r ≡ answer_of (found_in c)) (before : Before c) (possible : Bool) (told : possible ≡ is_possible r.verdict) where
-    -- it found a model
-    pub class_hit : possible ≡ true → r ≡ answer_of (found entries sets arrangement placed left)
-    unfolding answer_of
-    class_hit v = go (found_in c) refl
-      where
-        go : (o : Option Solution) → found_in c ≡ o → r ≡ answer_of (found entries sets arrangement placed left)
-        go none e = absurd (true≢false (sym v ∙ told ∙ ap (λ (a : SearchAnswer). is_possible a.verdict) (is ∙ ap answer_of e)))
-        go (some sol) e = is ∙ ap answer_of (e ∙ sym (loop_hit (suc used) found_in (found entries sets arrangement placed left) c sol (omega arith) e before))
+    module _ (here : Placing arrangement placed used) where
+      pub before_first : placed < task.terms → Before 0
+      before_first more = let e : task.terms - placed ≡ suc (task.terms - (placed + 1)) = omega arith in
+          loop_start (suc used) found_in (found task arrangement placed) (ap (found_behind fits (2 ^ task.sets) (rows_of_entries task.entries) (take placed arrangement)) e
+          ∙ behind_step fits (2 ^ task.sets) (rows_of_entries task.entries) (take placed arrangement) (task.terms - (placed + 1)) ∙ ap (λ u. first_from (suc u) 0 found_in) (sym here.counted))
 
-    -- it found none
-    pub class_miss : possible ≡ false → Before (c + 1)
-    unfolding answer_of
-    class_miss v = go (found_in c) refl
-      where
-        go : (o : Option Solution) → found_in c ≡ o → Before (c + 1)
-        go none e = loop_miss (suc used) found_in (found entries sets arrangement placed left) c (omega arith) e before
-        go (some sol) e = absurd (false≢true (sym v ∙ told ∙ ap (λ (a : SearchAnswer). is_possible a.verdict) (is ∙ ap answer_of e)))
+      -- the call with the next term in the class c is about that
+      pub found_next : (c : ℕ) → placed < max_terms → {same : Task} {l : List ℕ} {n : ℕ} → same ≡ task → l ≡ set arrangement placed c → n ≡ placed + 1 → found same l n ≡ found_in c
+      found_next c room e f g = rw (e, f, g) (ap (λ p. found_behind fits (2 ^ task.sets) (rows_of_entries task.entries) p (task.terms - (placed + 1))) (next_taken here c room))
 
-  -- every class was tried
-  pub class_end : (c : ℕ) → used < c → Before c → found entries sets arrangement placed left ≡ none
-  class_end c past = loop_end (suc used) found_in (found entries sets arrangement placed left) c past
+    module _ (c : ℕ) (allowed : c ≤ used) (r : Option Found) (is : r ≡ shown (found_in c)) (before : Before c) where
+      -- it found a model
+      pub class_hit : is_some r ≡ true → r ≡ shown (found task arrangement placed)
+      class_hit there = go (found_in c) refl
+        where
+          go : (o : Possibly Solution) → found_in c ≡ o → r ≡ shown (found task arrangement placed)
+          go none e = let lacks : r ≡ None = is ∙ ap shown e in absurd (false≢true (rw lacks at there))
+          go (some sol) e = is ∙ ap shown (e ∙ sym (loop_hit (suc used) found_in (found task arrangement placed) c sol (omega arith) e before))
+
+      -- it found none
+      pub class_miss : is_some r ≡ false → Before (c + 1)
+      class_miss lacks = go (found_in c) refl
+        where
+          go : (o : Possibly Solution) → found_in c ≡ o → Before (c + 1)
+          go none e = loop_miss (suc used) found_in (found task arrangement placed) c (omega arith) e before
+          go (some sol) e = let there : r ≡ shown (some sol) = is ∙ ap shown e in absurd (true≢false (rw there at lacks))
+
+    -- every class was tried
+    pub class_end : (c : ℕ) → used < c → Before c → found task arrangement placed ≡ none
+    class_end c past = loop_end (suc used) found_in (found task arrangement placed) c past

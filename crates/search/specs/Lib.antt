@@ -5,5 +5,5 @@ pub mod Entries
 pub mod Placings
 pub mod Groups
 pub mod Memos
-pub mod Steps
+pub mod Tasks
 pub mod Fittings

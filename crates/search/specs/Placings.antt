@@ -7,6 +7,7 @@ use Rattle.theory.specs.Solutions.{Solution}
 use Rattle.theory.specs.Sets.{fits}
 use Rattle.mask.specs.Entries.{rows_of_entries}
 use Rattle.cut.specs.Behind.{found_behind}
+use Rattle.search.specs.Tasks.{Task}
 
 -- the array has the class numbers of the terms placed, in `used` classes, and 0 past them
 pub record Placing (arrangement : List ℕ) (placed used : ℕ) : Type 0 where
@@ -16,6 +17,6 @@ pub record Placing (arrangement : List ℕ) (placed used : ℕ) : Type 0 where
   pub counted : used ≡ classes (take placed arrangement)
   pub rest_zero : drop placed arrangement ≡ replicate (max_terms - placed) 0
 
--- what is found there with so many terms still to be placed: the first model among the arrangements that begin so
-abbrev pub found : List ℕ → ℕ → List ℕ → ℕ → ℕ → Option Solution
-found entries sets arrangement placed left = found_behind fits (2 ^ sets) (rows_of_entries entries) (take placed arrangement) left
+-- what is found there, with the other terms of the task still to be placed: the first model among the arrangements that begin so
+abbrev pub found : Task → List ℕ → ℕ → Option Solution
+found task arrangement placed = found_behind fits (2 ^ task.sets) (rows_of_entries task.entries) (take placed arrangement) (task.terms - placed)

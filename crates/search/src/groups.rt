@@ -1,17 +1,20 @@
-// Groups of terms, each a number whose bits are its terms: one term's, and those that stand for classes.
-ghost use Rattle.std.specs.Prelude.{◌≡◌, ℕ, ◌+◌, ◌^◌, ◌≤◌, ◌<◌, max, get_or, take};
+// Groups of terms, each a number whose bits are its terms, as `mask` takes it: one term's, and those that stand for classes.
+ghost use Rattle.std.specs.Prelude.{◌≡◌, ℕ, ◌+◌, ◌^◌, ◌≤◌, ◌<◌, max, [], get_or, take, set};
+ghost use Rattle.outcome.specs.Padded.{padded};
 ghost use Rattle.question.specs.Limits.{max_terms};
 ghost use Rattle.question.specs.Masks.{bit};
 ghost use Rattle.theory.specs.Arrangements.{classes};
-ghost use Rattle.search.specs.Groups.{with_term, with_group, GroupsOf};
+ghost use Rattle.search.specs.Groups.{AreGroups, with_term, GroupsOf};
 
 use question::Question;
 
-// Groups that stand for classes: the terms of each, and how many groups there are.
+// Groups that stand for classes: the terms of each, and how many groups there are. A fixed array, for want of a heap.
 #[derive(Clone, Copy)]
 pub(crate) struct Groups {
     pub(crate) terms: [u32; Question::MAX_TERMS],
     pub(crate) count: u8,
+    ghost few: { count ≤ max_terms },
+    ghost are_groups: { AreGroups terms },
 }
 
 // Is the term in the group.
@@ -30,42 +33,38 @@ pub(crate) fn term_alone(term: usize) -> u32
     1 << (term as u32)
 }
 
-// How many groups there are with the group k, where `count` stood before.
-fn count_with(count: u8, k: u8) -> u8
-    requires { k < max_terms }
-    ensures { result ≡ max count (k + 1) }
-{
-    if count < k + 1 { k + 1 } else { count }
-}
-
-// The groups with a term in the group k, one of these or the next.
-pub(crate) fn with_term(groups: Groups, k: u8, term: usize) -> Groups
-    requires { (k < max_terms) × (term < max_terms) }
-    ensures { result ≡ with_term groups k term }
-{
-    let own = term_alone(term);
-    let count = count_with(groups.count, k);
-    let terms = groups.terms;
-    let mut next = terms;
-    next[k as usize] = terms[k as usize] | own;
-    Groups {
-        terms: next,
-        count: count,
+impl Groups {
+    // Room for twelve, and none yet.
+    pub(crate) fn none() -> Groups
+        ensures terms { result.terms ≡ padded max_terms [] }
+        ensures count { result.count ≡ 0 }
+    {
+        Groups {
+            terms: [0; Question::MAX_TERMS],
+            count: 0,
+        }
     }
-}
 
-// The groups with a new one, of one term.
-pub(crate) fn with_group(groups: Groups, term: usize) -> Groups
-    requires { (groups.count < max_terms) × (term < max_terms) }
-    ensures { result ≡ with_group groups term }
-{
-    let own = term_alone(term);
-    let count = groups.count;
-    let mut next = groups.terms;
-    next[count as usize] = own;
-    Groups {
-        terms: next,
-        count: count + 1,
+    // With a term in the group k, one of these or the next.
+    pub(crate) fn with_term(mut self, k: u8, term: usize) -> Groups
+        requires { (k < max_terms) × (term < max_terms) }
+        ensures terms { result.terms ≡ with_term self.terms k term }
+        ensures count { result.count ≡ max self.count (k + 1) }
+    {
+        self.terms[k as usize] |= term_alone(term);
+        self.count = self.count.max(k + 1);
+        self
+    }
+
+    // With a new one, of one term.
+    pub(crate) fn with_group(mut self, term: usize) -> Groups
+        requires { (self.count < max_terms) × (term < max_terms) }
+        ensures terms { result.terms ≡ set self.terms self.count (2 ^ term) }
+        ensures count { result.count ≡ self.count + 1 }
+    {
+        self.terms[self.count as usize] = term_alone(term);
+        self.count += 1;
+        self
     }
 }
 
@@ -75,16 +74,9 @@ pub(crate) fn groups_of(arrangement: [u8; Question::MAX_TERMS], terms: usize) ->
     ensures groups_of { GroupsOf arrangement terms result.terms }
     ensures count { result.count ≡ classes (take terms arrangement) }
 {
-    let none: [u32; Question::MAX_TERMS] = [0; Question::MAX_TERMS];
-    let mut groups = Groups {
-        terms: none,
-        count: 0,
-    };
-    let mut t: usize = 0;
-    while t < terms {
-        let next = with_term(groups, arrangement[t], t);
-        groups = next;
-        t += 1;
+    let mut groups = Groups::none();
+    for t in 0..terms {
+        groups = groups.with_term(arrangement[t], t);
     }
     groups
 }

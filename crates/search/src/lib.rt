@@ -29,6 +29,7 @@
 mod answers;
 mod asked;
 mod entries;
+mod finders;
 mod fittings;
 mod groups;
 mod memos;
@@ -37,7 +38,6 @@ mod placings;
 mod renamings;
 mod rest_fittings;
 mod searches;
-mod steps;
 
-pub use answers::SearchAnswer;
+pub use answers::Found;
 pub use searches::search;

@@ -1,62 +1,89 @@
 // The arrangement is built one term at a time: a recursion over the terms still to be placed, each call trying the class numbers allowed.
-ghost use Rattle.std.specs.Prelude.{◌≡◌, T};
-ghost use Rattle.theory.specs.Solutions.{all_rows};
-ghost use Rattle.theory.specs.Sets.{row_declared};
-ghost use Rattle.mask.specs.Entries.{rows_of_entries};
-ghost use Rattle.search.specs.Answers.{answer_of};
+ghost use Rattle.std.specs.Prelude.{◌≡◌, ◌+◌, ◌≤◌, ◌<◌, [], set, take};
+ghost use Rattle.outcome.specs.Padded.{padded};
+ghost use Rattle.question.specs.Limits.{max_terms};
+ghost use Rattle.theory.specs.Arrangements.{classes};
+ghost use Rattle.search.specs.Answers.{shown};
 ghost use Rattle.search.specs.Groups.{GroupsOf};
 ghost use Rattle.search.specs.Placings.{Placing, found};
-ghost use Rattle.search.specs.Memos.{Memo};
-ghost use Rattle.search.specs.Steps.{all_terms, Ready};
 
-use crate::answers::{SearchAnswer, is_possible, without_model};
-use crate::fittings::all_fit;
-use crate::groups::{Groups, with_term};
+use crate::answers::Found;
+use crate::finders::Finder;
+use crate::groups::{Groups, groups_of};
 use crate::models::model;
-use crate::steps::{Fixed, Span};
-use outcome::{Check, Verdict};
 use question::Question;
 
-// The terms before the unplaced ones stand in classes with these groups of terms.
-pub(crate) fn place(
-    entries: &[u64],
-    memo: &mut [u8],
-    fixed: Fixed,
-    arrangement: [u8; Question::MAX_TERMS],
-    groups: Groups,
-    unplaced: Span,
-) -> SearchAnswer
-    requires ready { Ready entries.now fixed memo.old unplaced }
-    requires placing { Placing arrangement unplaced.term groups.count }
-    requires groups_of { GroupsOf arrangement unplaced.term groups.terms }
-    requires declared { T (all_rows (row_declared (all_terms unplaced) fixed.sets) (rows_of_entries entries.now)) }
-    ensures value { result ≡ answer_of (found entries.now fixed.sets arrangement unplaced.term unplaced.left) }
-    ensures memo_after { Memo entries.now fixed.sets memo.new }
-{
-    let placed = unplaced.term;
-    let left = unplaced.left;
-    let count = groups.count;
-    if !all_fit(entries, memo, fixed, groups, unplaced, unplaced) {
-        return without_model(Check::Accepted, Verdict::Impossible);
-    }
-    if left == 0 {
-        return model(entries, arrangement, groups, placed, fixed.sets);
-    }
-    let rest = Span {
-        term: placed + 1,
-        left: left - 1,
-    };
-    let mut c: u8 = 0;
-    while c <= count {
-        let mut next = arrangement;
-        next[placed] = c;
-        let grown = with_term(groups, c, placed);
-        let r = place(entries, memo, fixed, next, grown, rest);
-        let verdict = r.verdict;
-        if is_possible(verdict) {
-            return r;
+// The beginning of an arrangement: the class numbers of the first terms, 0 past them, and the groups of the terms of each class.
+#[derive(Clone, Copy)]
+pub(crate) struct Placed {
+    pub(crate) arrangement: [u8; Question::MAX_TERMS],
+    pub(crate) terms: usize,
+    pub(crate) groups: Groups,
+    ghost placing: { Placing arrangement terms groups.count },
+    ghost groups_of: { GroupsOf arrangement terms groups.terms },
+}
+
+impl Placed {
+    // No term is placed.
+    pub(crate) fn none() -> Placed
+        ensures arrangement { result.arrangement ≡ padded max_terms [] }
+        ensures terms { result.terms ≡ 0 }
+    {
+        Placed {
+            arrangement: [0; Question::MAX_TERMS],
+            terms: 0,
+            groups: Groups::none(),
         }
-        c += 1;
     }
-    without_model(Check::Accepted, Verdict::Impossible)
+
+    // So many terms are placed, each in its class.
+    pub(crate) fn all(arrangement: [u8; Question::MAX_TERMS], terms: usize) -> Placed
+        requires { Placing arrangement terms (classes (take terms arrangement)) }
+        ensures arrangement { result.arrangement ≡ arrangement }
+        ensures terms { result.terms ≡ terms }
+    {
+        Placed {
+            arrangement,
+            terms,
+            groups: groups_of(arrangement, terms),
+        }
+    }
+
+    // The next term is placed too, in the class c or a new one.
+    fn with(self, c: u8) -> Placed
+        requires { (self.terms < max_terms) × (c ≤ self.groups.count) }
+        ensures arrangement { result.arrangement ≡ set self.arrangement self.terms c }
+        ensures terms { result.terms ≡ self.terms + 1 }
+    {
+        let mut arrangement = self.arrangement;
+        arrangement[self.terms] = c;
+        Placed {
+            arrangement,
+            terms: self.terms + 1,
+            groups: self.groups.with_term(c, self.terms),
+        }
+    }
+}
+
+impl Finder<'_> {
+    // The first model of an arrangement that begins so.
+    pub(crate) fn place(&mut self, placed: Placed) -> Option<Found>
+        requires { placed.terms ≤ self.old.terms }
+        ensures value { result ≡ shown (found self.old placed.arrangement placed.terms) }
+        ensures unchanged { self.new ≡ self.old }
+    {
+        if !self.all_fit(placed.groups, placed.terms, placed.terms) {
+            return None;
+        }
+        if placed.terms == self.terms {
+            return model(self.entries, placed, self.sets);
+        }
+        for c in 0..=placed.groups.count {
+            let found = self.place(placed.with(c));
+            if found.is_some() {
+                return found;
+            }
+        }
+        None
+    }
 }

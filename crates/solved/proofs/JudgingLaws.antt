@@ -5,7 +5,7 @@ use mathlib.Core.Bool.{Bool, true, false, cond}
 use mathlib.Core.List.{List}
 use mathlib.Core.Option.{some}
 use lib.ListN.{length}
-use Rattle.outcome.specs.declared.checks.Check.TheVariants.{Accepted}
+use Rattle.std.specs.Prelude.{Option, None, Ok}
 use Rattle.outcome.specs.Writes.{fitted, fitted_over}
 use Rattle.question.specs.declared.questions.Question.{Question}
 use Rattle.question.specs.Limits.{max_sets, max_terms}
@@ -19,13 +19,11 @@ use Rattle.answer.specs.Bytes.{file_of}
 use Rattle.answer.specs.Writes.{good_written, good_over, written, written_over}
 use Rattle.answer.proofs.MayLaws.{may_good, as_said}
 use Rattle.judge.specs.Shown.{model_shown}
-use Rattle.lines.specs.declared.readings.Value.{Value}
 use Rattle.lines.specs.declared.readings.Reading.{Reading}
 use Rattle.lines.specs.declared.readings.Stage.{Stage}
 use Rattle.lines.specs.declared.readings.Stage.TheVariants.{Start, Values, Valued, Refuted, Fault}
 use Rattle.lines.specs.Values.{truth_of}
 use Rattle.clauses.proofs.PlacedLaws.{model_placed}
-use Rattle.solved.specs.declared.answers.Solved.TheVariants.{SaidUnsatisfiable}
 use Rattle.solved.specs.declared.models.SaidModel.{SaidModel}
 use Rattle.solved.specs.Solved.{as_solved, failed, model_of, passed, model_solved, model_over, reading_solved, reading_over}
 use Rattle.solved.specs.Said.{said_as, shown_as, said_written, said_over, said_passed, said_judged, said_judged_over}
@@ -41,12 +39,12 @@ module _ (q : Question) (m : SaidModel) (old : List ℕ) {b : Bool} (is : b ≡ 
       (ap (λ x. cond x (said_written q m (length old)) failed) told, ap (λ x. cond x (said_over q m old) old) told)
 
 -- the model of any values is an arrangement with masks below the bound
-pub model_arranged : (q : Question) (values : List Value) → IsArranged (terms_of q) (mask_bound q) (model_of q values)
+pub model_arranged : (q : Question) (values : List (Option Bool)) → IsArranged (terms_of q) (mask_bound q) (model_of q values)
 model_arranged q values =
     let p = model_placed (terms_of q) q.sets (truth_of values) in
     record { arranged = p.arranged; each_term = p.long; each_class = p.each_class; masks_below = p.masks_below }
 
-module _ (q : Question) (e : checked q ≡ Accepted) where
+module _ (q : Question) (e : checked q ≡ Ok tt) where
   -- terms and sets fit their arrays
   pub few : (terms_of q ≤ max_terms) × (q.sets ≤ max_sets)
   few = (((accepted q).0 e).few_terms, ((accepted q).0 e).few_sets)
@@ -69,10 +67,10 @@ pub reading_valued : (q : Question) (r : Reading) (old : List ℕ) → r.stage �
 reading_valued q r old e = rw e (refl, refl)
 
 -- lines that don't
-pub reading_not_valued : (q : Question) (r : Reading) (old : List ℕ) → (r.stage ≡ Valued → ⊥) → (reading_solved q r (length old) ≡ SaidUnsatisfiable) × (reading_over q r old ≡ old)
+pub reading_not_valued : (q : Question) (r : Reading) (old : List ℕ) → (r.stage ≡ Valued → ⊥) → (reading_solved q r (length old) ≡ Ok None) × (reading_over q r old ≡ old)
 reading_not_valued q r old h = go r.stage refl
   where
-    go : (s : Stage) → r.stage ≡ s → (reading_solved q r (length old) ≡ SaidUnsatisfiable) × (reading_over q r old ≡ old)
+    go : (s : Stage) → r.stage ≡ s → (reading_solved q r (length old) ≡ Ok None) × (reading_over q r old ≡ old)
     go Start e = rw e (refl, refl)
     go Values e = rw e (refl, refl)
     go Valued e = absurd (h e)

@@ -1,28 +1,21 @@
--- The model that values say, a step at a time: one set more of a mask, and one earlier term less to look at.
-use Prim.Native.Nat.{ℕ, suc, ◌+◌, ◌-◌, ◌^◌, ◌≤◌, ◌<◌}
+-- The model that values say: one set more of a mask, and the lowest earlier term that passes a test.
+use Prim.Native.Nat.{ℕ, zero, suc, ◌+◌, ◌*◌, ◌%◌, ◌^◌, ◌<◌}
 use mathlib.Core.Path.{◌≡◌, refl, sym, ap, ◌∙◌}
 use mathlib.Core.Bool.{Bool, true, false, cond}
 use mathlib.Core.Option.{Option, none, some}
-use mathlib.Core.List.{List}
-use lib.ListN.{length, get_or-eq_default}
-use Rattle.lines.specs.declared.readings.Value.{Value}
-use Rattle.lines.specs.Values.{unsaid, is_true, truth_of}
+use Rattle.std.specs.Prelude as Found
+use Rattle.std.specs.List.{find, range_with_len}
 use native.Mathlib.Omega.{arith}
 use native.Mathlib.Numerals.{add-one}
-use native.Mathlib.Nat.{pow-le-pow_right}
+use Rattle.std.proofs.Math.Pow.{pow-lt}
+use Rattle.std.specs.Int.Bits.{bit_or, or_shifted_r}
+use Rattle.outcome.proofs.Never.{never}
 use Rattle.question.specs.Limits.{max_sets}
 use Rattle.theory.specs.Searches.{first_from, first_passing}
-use Rattle.clauses.specs.Variables.{pair_variable, in_variable}
+use Rattle.clauses.specs.Variables.{in_variable}
 use Rattle.clauses.specs.Meaning.{Truth}
-use Rattle.clauses.specs.Models.{mask_up_to, joined_to}
-
--- past the table nothing is said to be true
-pub true_past : (t : List Value) (v : ℕ) → length t ≤ v → truth_of t v ≡ false
-true_past t v h = ap is_true (get_or-eq_default t unsaid h)
-
--- the bits of at most so many sets
-pub power_most : (x : ℕ) → x ≤ max_sets → 2 ^ x ≤ 2 ^ max_sets
-power_most x h = pow-le-pow_right (omega arith) h
+use Rattle.clauses.specs.Models.{mask_up_to}
+use Rattle.clauses.proofs.PlacedLaws.{mask_below}
 
 module _ (terms sets : ℕ) (truth : Truth) (c : ℕ) where
   pub mask_none : mask_up_to terms sets truth 0 c ≡ 0
@@ -34,43 +27,51 @@ module _ (terms sets : ℕ) (truth : Truth) (c : ℕ) where
   unfolding mask_up_to
   mask_next x = rw (add-one x)
 
-  pub mask_hit : (x m bit : ℕ) → m ≡ mask_up_to terms sets truth x c → bit ≡ 2 ^ x → truth (in_variable terms sets c x) ≡ true → m + bit ≡ mask_up_to terms sets truth (x + 1) c
-  mask_hit x m bit e p t = rw (e, p) (sym (mask_next x ∙ ap (λ b. mask_up_to terms sets truth x c + cond b (2 ^ x) 0) t))
+  pub mask_hit : (x m : ℕ) → x < max_sets → m ≡ mask_up_to terms sets truth x c → truth (in_variable terms sets c x) ≡ true → bit_or m (1 * 2 ^ x % 2 ^ 32) ≡ mask_up_to terms sets truth (x + 1) c
+  mask_hit x m h e t =
+      let small : 2 ^ x < 2 ^ 32 = pow-lt {i = x} {j = 32} (omega arith) in
+      let one : 1 * 2 ^ x % 2 ^ 32 ≡ 1 * 2 ^ x = omega arith in
+      let next = mask_next x ∙ ap (λ b. mask_up_to terms sets truth x c + cond b (2 ^ x) 0) t in
+      ap (bit_or m) one ∙ or_shifted_r 1 x m (omega (arith, mask_below terms sets truth x c)) ∙ omega arith
 
   pub mask_miss : (x m : ℕ) → m ≡ mask_up_to terms sets truth x c → truth (in_variable terms sets c x) ≡ false → m ≡ mask_up_to terms sets truth (x + 1) c
   mask_miss x m e t = let next = mask_next x ∙ ap (λ b. mask_up_to terms sets truth x c + cond b (2 ^ x) 0) t in omega arith
 
--- the lowest term from c on whose pair variable with d is true
-module _ (terms : ℕ) (truth : Truth) (d : ℕ) where
-  abbrev pub joined_from : ℕ → Option ℕ
-  joined_from c = first_from (d - c) c (λ m. cond (truth (pair_variable terms 0 m d)) (some m) none)
+-- what a search finds, as the definitions have it
+abbrev pub as_found : Found.Option ℕ → Option ℕ
+as_found Found.None = none
+as_found (Found.Some c) = some c
 
-  pub joined_none : joined_from d ≡ none
-  unfolding first_from
-  joined_none = let z : d - d ≡ 0 = omega arith in rw z
+search_found : (p : ℕ → Bool) (n m : ℕ) → as_found (find p (range_with_len m n)) ≡ first_from n m (λ c. cond (p c) (some c) none)
+unfolding first_from
+search_found p zero m = refl
+search_found p (suc n) m = go (p m) (search_found p n (m + 1))
+  where
+    go : (b : Bool) → as_found (find p (range_with_len (m + 1) n)) ≡ first_from n (m + 1) (λ c. cond (p c) (some c) none) →
+        as_found (cond b (Found.Some m) (find p (range_with_len (m + 1) n))) ≡ elim (cond b (some m) none) [ none ↦ first_from n (suc m) (λ c. cond (p c) (some c) none) | some a ↦ some a ]
+    go true e = refl
+    go false e = e ∙ ap (λ k. first_from n k (λ c. cond (p c) (some c) none)) (add-one m)
 
-  pub joined_all : joined_from 0 ≡ joined_to terms 0 truth d
+found_below : (p : ℕ → Bool) (n m c : ℕ) → find p (range_with_len m n) ≡ Found.Some c → c < m + n
+found_below p zero m c e = never cc
+found_below p (suc n) m c e = go (p m) e (found_below p n (m + 1) c)
+  where
+    go : (b : Bool) → cond b (Found.Some m) (find p (range_with_len (m + 1) n)) ≡ Found.Some c → (find p (range_with_len (m + 1) n) ≡ Found.Some c → c < m + 1 + n) → c < m + suc n
+    go true e later = let same : m ≡ c = cc in omega arith
+    go false e later = omega (arith, later e)
+
+-- the lowest term that passes, as the code finds it
+module _ (p : ℕ → Bool) (d : ℕ) (o : Found.Option ℕ) (is : Found.option_map (λ c. c) o ≡ find p (range_with_len 0 d)) where
+  same_found : o ≡ find p (range_with_len 0 d)
+  same_found = go o is
+    where
+      go : (o : Found.Option ℕ) → Found.option_map (λ c. c) o ≡ find p (range_with_len 0 d) → o ≡ find p (range_with_len 0 d)
+      go Found.None e = e
+      go (Found.Some c) e = e
+
+  pub lowest : as_found o ≡ first_passing d p
   unfolding first_passing
-  joined_all = let z : d - 0 ≡ d = omega arith in rw z
+  lowest = ap as_found same_found ∙ search_found p d 0
 
-  -- one term lower
-  module _ (c : ℕ) (some_left : 0 < c) (below : c ≤ d) where
-    abbrev next : Bool → Option ℕ → Option ℕ
-    next b o = elim (cond b (some (c - 1)) none) [ none ↦ o | some a ↦ some a ]
-
-    at_least_one : (n m : ℕ) (test : ℕ → Option ℕ) → first_from (suc n) m test ≡ elim (test m) [ none ↦ first_from n (suc m) test | some a ↦ some a ]
-    unfolding first_from
-    at_least_one n m test = refl
-
-    lower : joined_from (c - 1) ≡ next (truth (pair_variable terms 0 (c - 1) d)) (joined_from c)
-    lower =
-        let test : ℕ → Option ℕ = λ m. cond (truth (pair_variable terms 0 m d)) (some m) none in
-        let more : d - (c - 1) ≡ suc (d - c) = omega arith in
-        let up : suc (c - 1) ≡ c = omega arith in
-        ap (λ n. first_from n (c - 1) test) more ∙ at_least_one (d - c) (c - 1) test ∙ ap (λ m. next (truth (pair_variable terms 0 (c - 1) d)) (first_from (d - c) m test)) up
-
-    pub joined_hit : truth (pair_variable terms 0 (c - 1) d) ≡ true → joined_from (c - 1) ≡ some (c - 1)
-    joined_hit e = lower ∙ ap (λ b. next b (joined_from c)) e
-
-    pub joined_miss : truth (pair_variable terms 0 (c - 1) d) ≡ false → joined_from (c - 1) ≡ joined_from c
-    joined_miss e = lower ∙ ap (λ b. next b (joined_from c)) e
+  pub lowest_below : (c : ℕ) → o ≡ Found.Some c → c < d
+  lowest_below c e = omega (arith, found_below p d 0 c (sym same_found ∙ e))

@@ -9,16 +9,22 @@ use Rattle.question.specs.declared.questions.Question.{Question}
 use Rattle.outcome.specs.declared.verdicts.Verdict.TheVariants.{Possible}
 use Rattle.answer.specs.declared.answers.Answer.{Answer}
 use Rattle.answer.specs.Writes.{written, written_over}
+use Rattle.clauses.specs.Meaning.{Truth}
+use Rattle.lines.specs.Values.{truth_of}
 use Rattle.judge.specs.Judgements.{judged}
 use Rattle.judge.specs.declared.models.Model.{Model}
-use Rattle.solved.specs.declared.answers.Solved.{Solved}
-use Rattle.solved.specs.Solved.{is_yes, as_solved, failed}
+use Rattle.solved.specs.Solved.{Solved, is_yes, as_solved, failed}
 use Rattle.solved.specs.declared.models.SaidModel.{SaidModel}
+use Rattle.solved.specs.declared.values.SaidValues.{SaidValues}
 
 -- the class of a next term, behind terms with these class numbers: that of the earlier term which it joins, else the next
 abbrev pub class_by : List ℕ → ℕ → Option ℕ → ℕ
 class_by numbers used none = used
 class_by numbers used (some c) = get_or numbers c 0
+
+-- the truth values that are said
+abbrev pub said_truth : SaidValues → Truth
+said_truth s = truth_of s.reading.now.values
 
 -- a solution as arrays; entries past the terms and past the classes are 0
 unfoldable pub said_as : Solution → SaidModel

@@ -4,6 +4,7 @@
 mod answers;
 mod files;
 mod models;
+mod values;
 
-pub use answers::{Solved, solve};
+pub use answers::solve;
 pub use files::solve_file;

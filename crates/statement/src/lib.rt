@@ -6,6 +6,6 @@ mod name_tests;
 mod names;
 mod statements;
 
-pub use name_tests::{NameTest, name_test};
+pub use name_tests::name_test;
 pub use names::{ElementName, SetName};
 pub use statements::{Statement, witness_of};

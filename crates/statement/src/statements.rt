@@ -52,9 +52,12 @@ impl Statement {
 }
 
 // How many witnesses a statement makes.
+#[tactic(auto, unfolding(crate::specs::Statements::witness))]
 pub fn witness_of(s: Statement) -> usize
     ensures { result ≡ witness s }
 {
-    let tag = s.tag();
-    if tag == 0x21 { 1 } else { 0 }
+    match s {
+        Statement::SetsDiffer(_, _) => 1,
+        _ => 0,
+    }
 }

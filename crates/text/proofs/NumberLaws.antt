@@ -9,7 +9,7 @@ use borrow.Author.Tests.{eq-eqb, ne_eqb, le-leb, lt-leb}
 use lib.Dec.{leb}
 use lib.ListN.{length, get_or, drop, drop_of_length-le}
 use lib.Seq.{drop-cons}
-use Rattle.text.specs.declared.decimals.Number.TheVariants.{Said, NotOne}
+use Rattle.std.specs.Prelude.{Some, None}
 use Rattle.text.specs.Decimals.{digit, is_digit, digits_from, number_said, up_to, number_up_to}
 
 -- which bytes are digits
@@ -23,21 +23,21 @@ pub among_digits : (b : ℕ) → digit 0 ≤ b → b ≤ digit 9 → is_digit b 
 among_digits b h k = rw (le-leb (digit 0) b h) (le-leb b (digit 9) k)
 
 -- a number that is too large stays so, whatever follows
-pub digits_above : (most n : ℕ) (bytes : List ℕ) → most < n → up_to most (digits_from n bytes) ≡ NotOne
+pub digits_above : (most n : ℕ) (bytes : List ℕ) → most < n → up_to most (digits_from n bytes) ≡ None
 unfolding digits_from
 digits_above most n [] h = rw (lt-leb n most h)
 digits_above most n (b ∷ bytes) h = go (is_digit b) refl (digits_above most (n * 10 + (b - digit 0)) bytes (omega arith))
   where
-    go : (d : Bool) → is_digit b ≡ d → up_to most (digits_from (n * 10 + (b - digit 0)) bytes) ≡ NotOne → up_to most (digits_from n (b ∷ bytes)) ≡ NotOne
+    go : (d : Bool) → is_digit b ≡ d → up_to most (digits_from (n * 10 + (b - digit 0)) bytes) ≡ None → up_to most (digits_from n (b ∷ bytes)) ≡ None
     go true e later = rw e later
     go false e later = rw e
 
 module _ (most n : ℕ) (bytes : List ℕ) (i : ℕ) where
-  pub digits_end : length bytes ≤ i → n ≤ most → up_to most (digits_from n (drop i bytes)) ≡ Said n
+  pub digits_end : length bytes ≤ i → n ≤ most → up_to most (digits_from n (drop i bytes)) ≡ Some n
   unfolding digits_from
   digits_end h k = rw (drop_of_length-le bytes h) (rw (le-leb n most k))
 
-  pub digits_stop : i < length bytes → is_digit (get_or bytes i 0) ≡ false → up_to most (digits_from n (drop i bytes)) ≡ NotOne
+  pub digits_stop : i < length bytes → is_digit (get_or bytes i 0) ≡ false → up_to most (digits_from n (drop i bytes)) ≡ None
   unfolding digits_from
   digits_stop h e = rw (drop-cons bytes i 0 h) (rw e)
 
@@ -47,11 +47,11 @@ module _ (most n : ℕ) (bytes : List ℕ) (i : ℕ) where
 
 -- a number by its first byte
 module _ (most : ℕ) (bytes : List ℕ) where
-  pub number_none : length bytes ≡ 0 → number_up_to most bytes ≡ NotOne
+  pub number_none : length bytes ≡ 0 → number_up_to most bytes ≡ None
   unfolding number_up_to number_said
   number_none h = rw (drop_of_length-le bytes {i = 0} (omega arith))
 
-pub number_led : (most : ℕ) (bytes : List ℕ) → get_or bytes 0 0 ≡ digit 0 → 1 < length bytes → number_up_to most bytes ≡ NotOne
+pub number_led : (most : ℕ) (bytes : List ℕ) → get_or bytes 0 0 ≡ digit 0 → 1 < length bytes → number_up_to most bytes ≡ None
 unfolding number_up_to number_said
 number_led most [] e h = absurd (omega arith)
 number_led most (b ∷ []) e h = absurd (omega arith)

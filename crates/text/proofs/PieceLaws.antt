@@ -1,38 +1,29 @@
 -- The pieces of some bytes: the first one and those behind its separator; joined they are the bytes, and pieces that are joined come apart again.
-use Prim.Native.Nat.{ℕ, suc, ◌+◌, ◌-◌, ◌≤◌, ◌<◌}
+use Prim.Native.Nat.{ℕ, suc}
 use mathlib.Core.Path.{◌≡◌, refl, sym, ap, ap₂, ◌∙◌}
 use mathlib.Core.Bool.{Bool, true, false, cond}
 use mathlib.Core.List.{List, [], ◌∷◌, ◌++◌}
 use native.Mathlib.Omega.{arith}
-use native.Mathlib.Numerals.{add-one}
 use borrow.Author.Tests.{eq-eqb, ne_eqb, eqb-true}
 use lib.Dec.{eqb}
-use lib.ListN.{length, take, drop, length-drop}
-use lib.Seq.{take_all}
+use lib.ListN.{length}
+use Rattle.std.specs.List.{slice_split, onto_first}
 use Rattle.outcome.proofs.Never.{never}
 use Rattle.text.specs.Pieces.{until, in_front, pieces, joined, Free, AllFree}
 
 module _ (sep : ℕ) where
-  pub until_within : (bytes : List ℕ) → length (until sep bytes) ≤ length bytes
-  unfolding until
-  until_within [] = omega arith
-  until_within (b ∷ bytes) = go (eqb b sep) (until_within bytes)
+  -- the pieces are the parts that the library's `split` gives
+  pub split_pieces : (bytes : List ℕ) → slice_split (λ b. eqb b sep) bytes ≡ pieces sep bytes
+  unfolding pieces
+  split_pieces [] = refl
+  split_pieces (b ∷ bytes) = rw (split_pieces bytes) (go (pieces sep bytes) (eqb b sep))
     where
-      go : (t : Bool) → length (until sep bytes) ≤ length bytes → length (cond t [] (b ∷ until sep bytes)) ≤ suc (length bytes)
-      go true h = omega arith
-      go false h = omega arith
-
-  until_takes : (bytes : List ℕ) → until sep bytes ≡ take (length (until sep bytes)) bytes
-  unfolding until
-  until_takes [] = refl
-  until_takes (b ∷ bytes) = go (eqb b sep) (until_takes bytes)
-    where
-      go : (t : Bool) → until sep bytes ≡ take (length (until sep bytes)) bytes → cond t [] (b ∷ until sep bytes) ≡ take (length (cond t [] (b ∷ until sep bytes))) (b ∷ bytes)
-      go true h = refl
-      go false h = ap (λ l. b ∷ l) h
+      go : (ps : List (List ℕ)) (t : Bool) → cond t ([] ∷ ps) (onto_first b ps) ≡ cond t ([] ∷ ps) (in_front b ps)
+      go [] t = refl
+      go (p ∷ ps) t = refl
 
   -- no separator: one piece
-  pub one_piece : (bytes : List ℕ) → length (until sep bytes) ≡ length bytes → pieces sep bytes ≡ bytes ∷ []
+  one_piece : (bytes : List ℕ) → length (until sep bytes) ≡ length bytes → pieces sep bytes ≡ bytes ∷ []
   unfolding until pieces
   one_piece [] h = refl
   one_piece (b ∷ bytes) h = go (eqb b sep) h (one_piece bytes)
@@ -40,24 +31,6 @@ module _ (sep : ℕ) where
       go : (t : Bool) → length (cond t [] (b ∷ until sep bytes)) ≡ suc (length bytes) → (length (until sep bytes) ≡ length bytes → pieces sep bytes ≡ bytes ∷ []) → cond t ([] ∷ pieces sep bytes) (in_front b (pieces sep bytes)) ≡ (b ∷ bytes) ∷ []
       go true e later = absurd (omega arith)
       go false e later = ap (in_front b) (later (omega arith))
-
-  -- a separator: the piece before it, and those behind it
-  first_piece : (bytes : List ℕ) → length (until sep bytes) < length bytes → pieces sep bytes ≡ until sep bytes ∷ pieces sep (drop (suc (length (until sep bytes))) bytes)
-  unfolding until pieces
-  first_piece [] h = absurd (omega arith)
-  first_piece (b ∷ bytes) h = go (eqb b sep) h (first_piece bytes)
-    where
-      go : (t : Bool) → length (cond t [] (b ∷ until sep bytes)) < suc (length bytes) → (length (until sep bytes) < length bytes → pieces sep bytes ≡ until sep bytes ∷ pieces sep (drop (suc (length (until sep bytes))) bytes)) →
-          cond t ([] ∷ pieces sep bytes) (in_front b (pieces sep bytes)) ≡ cond t [] (b ∷ until sep bytes) ∷ pieces sep (drop (length (cond t [] (b ∷ until sep bytes))) bytes)
-      go true less later = refl
-      go false less later = ap (in_front b) (later (omega arith))
-
-  -- the same, as the machine cuts the bytes
-  pub some_piece : (bytes : List ℕ) (n : ℕ) → n ≡ length (until sep bytes) → n < length bytes → pieces sep bytes ≡ take n bytes ∷ pieces sep (take (length bytes - (n + 1)) (drop (n + 1) bytes))
-  some_piece bytes n e h =
-      let rest : take (length bytes - (n + 1)) (drop (n + 1) bytes) ≡ drop (suc (length (until sep bytes))) bytes =
-      take_all (length bytes - (n + 1)) (drop (n + 1) bytes) (omega (arith, length-drop (n + 1) bytes)) ∙ ap (λ k. drop k bytes) (add-one n ∙ ap suc e) in
-      first_piece bytes (omega arith) ∙ ap₂ (λ p l. p ∷ pieces sep l) (until_takes bytes ∙ ap (λ k. take k bytes) (sym e)) (sym rest)
 
   -- there is at least one piece
   pub any_piece : (bytes : List ℕ) → (pieces sep bytes ≡ []) → ⊥

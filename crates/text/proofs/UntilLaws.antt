@@ -1,22 +1,22 @@
--- The bytes before the first separator, from a place on: the separator stands there, another byte does, or the bytes end.
-use Prim.Native.Nat.{ℕ, suc, ◌+◌, ◌≤◌, ◌<◌}
-use mathlib.Core.Path.{◌≡◌}
-use mathlib.Core.List.{List}
-use native.Mathlib.Numerals.{add-one}
-use borrow.Author.Tests.{eq-eqb, ne_eqb}
-use lib.ListN.{length, get_or, drop, drop_of_length-le}
-use lib.Seq.{drop-cons}
+-- The bytes before the first separator end at its place.
+use Rattle.std.proofs.Common.{◌≡◌, ℕ, ◌+◌, ◌≤◌, eqb, ltb, cond, not, Bool, true, false, List, [], ◌∷◌, length, refl, sym, ◌∙◌, arith, unwrap_or, position, Some, None}
+use Rattle.std.specs.List.{position_or_len}
+use Rattle.std.proofs.lemmas.Bool.Decides.{nat_tests}
+use Rattle.std.proofs.lemmas.List.Recursion.{is_position_or_len}
+use Rattle.std.proofs.lemmas.List.Sums.{prefix_len-le-length}
 use Rattle.text.specs.Pieces.{until}
 
-module _ (sep : ℕ) (bytes : List ℕ) (i : ℕ) where
-  pub until_here : i < length bytes → get_or bytes i 0 ≡ sep → length (until sep (drop i bytes)) ≡ 0
-  unfolding until
-  until_here h e = rw (drop-cons bytes i 0 h) (rw (eq-eqb (get_or bytes i 0) sep e))
+-- as a place in the bytes, or their end
+place_or_end : (n m : ℕ) → n ≤ m → unwrap_or (cond (ltb n m) (Some n) None) m ≡ n
+place_or_end n m h = grind (arith, nat_tests)
 
-  pub until_next : i < length bytes → (get_or bytes i 0 ≡ sep → ⊥) → length (until sep (drop i bytes)) ≡ suc (length (until sep (drop (i + 1) bytes)))
-  unfolding until
-  until_next h e = rw (add-one i, drop-cons bytes i 0 h) (rw (ne_eqb (get_or bytes i 0) sep e))
+until_place : (sep : ℕ) (bytes : List ℕ) → length (until sep bytes) ≡ position_or_len (λ b. eqb b sep) bytes
+unfolding until
+until_place sep bytes = is_position_or_len (λ l. length (until sep l)) (λ b. eqb b sep) refl (λ b l. go (eqb b sep) b l) bytes
+  where
+    go : (t : Bool) (b : ℕ) (l : List ℕ) → length (cond t [] (b ∷ until sep l)) ≡ cond t 0 (1 + length (until sep l))
+    go true b l = refl
+    go false b l = omega arith
 
-  pub until_end : length bytes ≤ i → length (until sep (drop i bytes)) ≡ 0
-  unfolding until
-  until_end h = rw (drop_of_length-le bytes h)
+pub until_found : (sep : ℕ) (bytes : List ℕ) → unwrap_or (position (λ b. eqb b sep) bytes) (length bytes) ≡ length (until sep bytes)
+until_found sep bytes = place_or_end _ _ (prefix_len-le-length (λ b. not (eqb b sep)) bytes) ∙ sym (until_place sep bytes)

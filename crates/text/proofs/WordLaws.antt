@@ -1,17 +1,12 @@
 -- What a word says, by its first byte.
-use Prim.Native.Nat.{ℕ, suc, ◌-◌, ◌<◌}
-use mathlib.Core.Path.{◌≡◌, refl, sym, ap}
-use mathlib.Core.List.{List, [], ◌∷◌}
-use native.Mathlib.Omega.{arith}
+use Rattle.std.proofs.Common.{◌≡◌, ℕ, suc, ◌-◌, ◌<◌, List, [], ◌∷◌, length, get_or, take, drop, refl, sym, ap, arith}
 use borrow.Author.Tests.{eq-eqb, ne_eqb}
-use lib.ListN.{length, get_or, take, drop}
 use lib.Seq.{take_all}
-use Rattle.text.specs.declared.literals.Word.TheVariants.{NotOne}
-use Rattle.text.specs.Decimals.{number_up_to}
+use Rattle.text.specs.Decimals.{number_said, number_up_to}
 use Rattle.text.specs.Literals.{minus, plain, denial, word_read}
 
-pub word_none : (most : ℕ) (w : List ℕ) → length w ≡ 0 → word_read most w ≡ NotOne
-unfolding word_read
+pub word_none : (most : ℕ) (w : List ℕ) → length w ≡ 0 → word_read most w ≡ plain (number_up_to most w)
+unfolding word_read number_up_to number_said
 word_none most [] h = refl
 word_none most (b ∷ w) h = absurd (omega arith)
 

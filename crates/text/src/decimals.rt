@@ -5,18 +5,8 @@ ghost use Rattle.text.specs.Decimals.{decimal, digits_from, up_to, number_up_to}
 
 use crate::bytes::put_byte;
 
-// The byte of the digit 0, and that of 9.
+// The byte of the digit 0.
 const ZERO: u8 = 0x30;
-
-const NINE: u8 = 0x39;
-
-// What some bytes say, read as a number.
-#[derive(Clone, Copy)]
-pub(crate) enum Number {
-    Said(usize),
-    // They are no number, or one above the greatest that was asked for.
-    NotOne,
-}
 
 // The digits of a number, from a place on.
 pub(crate) fn put_digits(n: usize, at: usize, buf: &mut [u8]) -> usize
@@ -41,40 +31,30 @@ pub fn put_decimal(n: usize, at: u32, buf: &mut [u8]) -> usize
 
 // The number that some digits say, zeros in front or not, if it is at most `most`. The walk leaves as soon as the number
 // is above: the digits that follow only make it larger, and a byte that is no digit refuses too.
-fn digits_in(bytes: &[u8], most: u32) -> Number
+fn digits_in(bytes: &[u8], most: u32) -> Option<usize>
     ensures { result ≡ up_to most (digits_from 0 bytes.now) }
 {
     let greatest = most as usize;
     let mut n: usize = 0;
-    let mut i: usize = 0;
-    while i < bytes.len() {
-        let b = bytes[i];
-        if b < ZERO {
-            return Number::NotOne;
+    for &b in bytes {
+        if !b.is_ascii_digit() {
+            return None;
         }
-        if NINE < b {
-            return Number::NotOne;
-        }
-        n = n * 10 + (b - ZERO) as usize;
+        n = n * 10 + usize::from(b - ZERO);
         if greatest < n {
-            return Number::NotOne;
+            return None;
         }
-        i += 1;
     }
-    Number::Said(n)
+    Some(n)
 }
 
 // The number that some bytes say in decimal, if it is at most `most`; 0 stands in front of no other digit.
-pub(crate) fn decimal_in(bytes: &[u8], most: u32) -> Number
+pub(crate) fn decimal_in(bytes: &[u8], most: u32) -> Option<usize>
     ensures { result ≡ number_up_to most bytes.now }
 {
-    if bytes.len() == 0 {
-        return Number::NotOne;
+    match bytes {
+        [] => None,
+        [ZERO, _, ..] => None,
+        _ => digits_in(bytes, most),
     }
-    if bytes[0] == ZERO {
-        if 1 < bytes.len() {
-            return Number::NotOne;
-        }
-    }
-    digits_in(bytes, most)
 }

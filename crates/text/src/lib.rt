@@ -9,5 +9,5 @@ mod pieces;
 
 pub use bytes::put_byte;
 pub use decimals::put_decimal;
-pub use literals::{Literal, Word, literal_in, put_literal};
+pub use literals::{Literal, literal_in, put_literal};
 pub use pieces::piece_length;

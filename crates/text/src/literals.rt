@@ -1,10 +1,10 @@
 // Literals: the number of a variable, with a minus in front where it is denied.
 ghost use Rattle.std.specs.Prelude.{◌≡◌, length};
 ghost use Rattle.text.specs.Laid.{laid};
-ghost use Rattle.text.specs.Literals.{literal_text, plain, denial, word_read};
+ghost use Rattle.text.specs.Literals.{literal_text, denial, word_read};
 
 use crate::bytes::put_byte;
-use crate::decimals::{Number, decimal_in, put_digits};
+use crate::decimals::{decimal_in, put_digits};
 
 // The byte of a minus.
 const MINUS: u8 = 0x2d;
@@ -13,14 +13,6 @@ const MINUS: u8 = 0x2d;
 pub struct Literal {
     pub denied: bool,
     pub variable: usize,
-}
-
-// What a word says.
-#[derive(Clone, Copy)]
-pub enum Word {
-    Says(Literal),
-    // It is no literal, or its number is above the greatest that was asked for.
-    NotOne,
 }
 
 // The text of a literal in a lent buffer from a place on, as far as there is room; how many bytes it has is given back.
@@ -35,46 +27,28 @@ pub fn put_literal(l: Literal, at: u32, buf: &mut [u8]) -> usize
     put_digits(l.variable, start, buf)
 }
 
-// The variable with a number, if it is one.
-fn plain(n: Number) -> Word
-    ensures { result ≡ plain n }
+// The denial of the variable with a number; there is no -0.
+fn denial(variable: usize) -> Option<Literal>
+    ensures { result ≡ denial (Some variable) }
 {
-    match n {
-        Number::NotOne => Word::NotOne,
-        Number::Said(v) => Word::Says(Literal {
-            denied: false,
-            variable: v,
-        }),
+    if variable == 0 {
+        return None;
     }
-}
-
-// Its denial; there is no -0.
-fn denial(n: Number) -> Word
-    ensures { result ≡ denial n }
-{
-    match n {
-        Number::NotOne => Word::NotOne,
-        Number::Said(v) => {
-            if v == 0 {
-                return Word::NotOne;
-            }
-            Word::Says(Literal {
-                denied: true,
-                variable: v,
-            })
-        }
-    }
+    Some(Literal {
+        denied: true,
+        variable,
+    })
 }
 
 // What a word says, where variables go up to `most`.
-pub fn literal_in(word: &[u8], most: u32) -> Word
+pub fn literal_in(word: &[u8], most: u32) -> Option<Literal>
     ensures { result ≡ word_read most word.now }
 {
-    if word.len() == 0 {
-        return Word::NotOne;
+    match word {
+        [MINUS, digits @ ..] => denial(decimal_in(digits, most)?),
+        _ => Some(Literal {
+            denied: false,
+            variable: decimal_in(word, most)?,
+        }),
     }
-    if word[0] == MINUS {
-        return denial(decimal_in(&word[1..], most));
-    }
-    plain(decimal_in(word, most))
 }

@@ -6,12 +6,8 @@ ghost use Rattle.text.specs.Pieces.{until};
 pub fn piece_length(bytes: &[u8], separator: u8) -> usize
     ensures { result ≡ length (until separator bytes.now) }
 {
-    let mut i: usize = 0;
-    while i < bytes.len() {
-        if bytes[i] == separator {
-            return i;
-        }
-        i += 1;
-    }
-    i
+    bytes
+        .iter()
+        .position(|b| *b == separator)
+        .unwrap_or(bytes.len())
 }

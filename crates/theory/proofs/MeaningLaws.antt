@@ -7,7 +7,7 @@ use mathlib.Core.Logic.{◌↔◌}
 use lib.Dec.{T}
 use Rattle.statement.specs.declared.statements.Statement.{Statement}
 use Rattle.statement.specs.declared.statements.Statement.TheVariants.{ElementsEqual, ElementsDiffer, In, NotIn, SetsEqual, SetsDiffer, Empty, Single, Union, Intersection, Difference}
-use Rattle.statement.specs.declared.name_tests.NameTest.TheVariants.{Declared}
+use Rattle.std.specs.Prelude.{Ok}
 use Rattle.statement.specs.NameTests.{name_test}
 use Rattle.question.specs.Checks.{AllDeclared}
 use Rattle.question.specs.Masks.{bit}
@@ -52,7 +52,7 @@ module _ (A : Assignment) where
 
   -- where bit x of an element's mask says whether it is in x, the statements hold exactly if their rules are met
   module _ (mask : ℕ → ℕ) (E S : ℕ) (bits : (d x : ℕ) → x < S → bit (mask d) x ≡ part_of x d) where
-    one_met : (s : Statement) → name_test E S s ≡ Declared → T (holds A s) ↔ RuleMet fits (in_masks mask) (rule s)
+    one_met : (s : Statement) → name_test E S s ≡ Ok tt → T (holds A s) ↔ RuleMet fits (in_masks mask) (rule s)
     one_met s nm =
         let iff = asked_is_met passes A.size (element_of A) part_of fits mask E (Named E S) (λ t h d. passes_local (bit (mask d)) (λ x. part_of x d) _ _ E S (bits d) (λ a lt. refl) t h) (rule s) (rule_named E S s nm) in
         (λ h. iff.0 (subst T (holds_asked s) h), λ h. rw holds_asked (iff.1 h))

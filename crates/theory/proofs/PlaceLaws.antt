@@ -8,7 +8,7 @@ use lib.Dec.{T, ltb, ltb→lt, lt→ltb}
 use Rattle.outcome.proofs.Never.{never}
 use Rattle.statement.specs.declared.statements.Statement.{Statement}
 use Rattle.statement.specs.declared.statements.Statement.TheVariants.{ElementsEqual, ElementsDiffer, In, NotIn, SetsEqual, SetsDiffer, Empty, Single, Union, Intersection, Difference}
-use Rattle.statement.specs.declared.name_tests.NameTest.TheVariants.{Declared, Undeclared}
+use Rattle.std.specs.Prelude.{Ok, Err}
 use Rattle.statement.specs.Statements.{Name, element, set as set_name, names_of, witness, witnesses}
 use Rattle.statement.specs.NameTests.{declared, leftmost, name_test}
 use Rattle.question.specs.Checks.{AllDeclared}
@@ -108,12 +108,12 @@ module _ (E S : ℕ) where
   name_place (element a) = refl
   name_place (set_name x) = refl
 
-  names_places : (at : ℕ) (ns : List Name) → leftmost at (map (declared E S) ns) ≡ Declared → T (places_declared E S (map place_of ns))
+  names_places : (at : ℕ) (ns : List Name) → leftmost at (map (declared E S) ns) ≡ Ok tt → T (places_declared E S (map place_of ns))
   names_places at [] h = tt
   names_places at (n ∷ ns) h = subst (λ b. T (b && places_declared E S (map place_of ns))) (name_place n) (go (declared E S n) h (names_places (suc at) ns))
     where
-      go : (b : Bool) → cond b (leftmost (suc at) (map (declared E S) ns)) (Undeclared at) ≡ Declared →
-          (leftmost (suc at) (map (declared E S) ns) ≡ Declared → T (places_declared E S (map place_of ns))) → T (b && places_declared E S (map place_of ns))
+      go : (b : Bool) → cond b (leftmost (suc at) (map (declared E S) ns)) (Err at) ≡ Ok tt →
+          (leftmost (suc at) (map (declared E S) ns) ≡ Ok tt → T (places_declared E S (map place_of ns))) → T (b && places_declared E S (map place_of ns))
       go true e ih = ih e
       go false e ih = never cc
 
@@ -122,7 +122,7 @@ module _ (E S : ℕ) where
   places_named (EachTerm t) h = h
   places_named (OwnWitness t) h = h
 
-  pub rule_named : (s : Statement) → name_test E S s ≡ Declared → RuleNamed E Named (rule s)
+  pub rule_named : (s : Statement) → name_test E S s ≡ Ok tt → RuleNamed E Named (rule s)
   rule_named s h = places_named (rule s) (subst (λ ps. T (places_declared E S ps)) (rule_places_lem s) (names_places 0 (names_of s) h))
 
   pub rules_named : (ss : List Statement) → AllDeclared E S ss → RulesNamed E Named (map rule ss)

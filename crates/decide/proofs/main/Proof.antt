@@ -9,7 +9,7 @@ use Rattle.decide.proofs.main.Tie as tie
 part_write_all_end : tie.Need-slice_bounds-write_all-end
 part_write_all_end c =
     let r = c.respond in
-    omega (arith, response_within _ _ _ _ (sym r.ensures.0 ∙ c.in-Count.is) r.ensures.1)
+    omega (arith, response_within _ _ _ _ (sym r.ensures.0 ∙ c.in-Ok.is) r.ensures.1)
 
 pub main_spec : {M : Type 1} → statement M
 main_spec =

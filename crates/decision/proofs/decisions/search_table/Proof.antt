@@ -25,8 +25,8 @@ came c =
     let told = c.write_rows.ensures in
     let long : length q.table ≡ 64 = search table_long in
     ⊎_elim
-    (λ x. (omega (arith, x.count-is), many_searched q _ (table_refused q _ _ (stated_few q long) (omega arith) (sym told.0 ∙ x.in-Refused.is))))
-    (λ x. let s = table_stands q _ _ _ told.1 (sym told.0 ∙ x.in-Count.is) in
+    (λ x. (omega (arith, x.count-is), many_searched q _ (table_refused q _ _ (stated_few q long) (omega arith) (sym told.0 ∙ x.in-Err.is))))
+    (λ x. let s = table_stands q _ _ _ told.1 (sym told.0 ∙ x.in-Ok.is) in
     (omega (arith, x.count-is, s.0), rows_searched q _ (ap (λ n. take n c.write_rows.new.rows) x.count-is ∙ s.1)))
     c.match-write_rows.branch-raw
 

@@ -2,7 +2,7 @@
 use mathlib.Core.Path.{◌≡◌, sym, subst}
 use borrow.Author.Rules.{rules}
 use lib.ListN.{length}
-use Rattle.outcome.specs.declared.writes.Written.{Written}
+use Rattle.outcome.specs.Writes.{Written}
 use Rattle.sayfudhoum.specs.Files.{answered}
 use Rattle.sayfudhoum.specs.Numbers.{answer_number, IsShort}
 use Rattle.sayfudhoum.proofs.FileLaws.{answered_short}

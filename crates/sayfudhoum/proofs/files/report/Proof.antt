@@ -1,11 +1,11 @@
 -- `report` writes field 44 at the front, and 7F into the rest of the buffer: a run of writes.
+use Rattle.std.proofs.Common.{Ok, Err}
 use Prim.Native.Nat.{◌+◌, ◌-◌, ◌/◌, ◌%◌, ◌≤◌}
 use mathlib.Core.Path.{◌≡◌, sym, ap, subst, ◌∙◌}
 use mathlib.Core.List.{[], ◌∷◌}
 use native.Mathlib.Omega.{arith}
 use borrow.Author.Rules.{rules}
 use lib.ListN.{length, take, drop, length-take, length-drop}
-use Rattle.outcome.specs.declared.writes.Written.TheVariants.{Count, Refused}
 use Rattle.outcome.proofs.OverLaws.{Run, run_first, run_room, run_on, run_end}
 use Rattle.outcome.proofs.WriteLaws.{too_short}
 use Rattle.outcome.proofs.WriteLaws.{fits as fits_whole}
@@ -24,7 +24,7 @@ returns : tie.Need-returns-then-buf-length
 returns c =
     let a = c.args in
     let short = too_short (report_bytes a.refusal) a.buf.now (omega (arith, report_length a.refusal, nine c.before.before, c.if-buf-length.true)) in
-    (ap Refused c.new.ensures ∙ sym short.0, sym short.1)
+    (ap Err c.new.ensures ∙ sym short.0, sym short.1)
 
 -- there is room for nine
 room : (c : tie.After-put_field-arg-2-1) → 9 ≤ length c.args.buf.now
@@ -57,7 +57,7 @@ returns-2 c =
     let behind : 3 ≤ length part = simp (length-take, length-drop) (omega (arith, (fits c.before.before.before.before.before).1)) in
     let all = (run_end (run_on end_bytes [] c.put_field.new.buf (begun c.before.before.before.before.before) (c.put_field.ensures.1 ∙ (written 0x7f [] part (omega arith) (omega arith)).1))).1 in
     let whole = fits_whole (report_bytes a.refusal) a.buf.now (omega (arith, room c.before.before.before.before.before, report_length a.refusal)) in
-    (ap Count (nine c.before.before.before.before.before.before.before.before.before.before.before.before.before.before ∙ sym (report_length a.refusal)) ∙ sym whole.0, all ∙ sym whole.1)
+    (ap Ok (nine c.before.before.before.before.before.before.before.before.before.before.before.before.before.before ∙ sym (report_length a.refusal)) ∙ sym whole.0, all ∙ sym whole.1)
 
 pub report_spec : {M : Type 1} → statement M
 report_spec =

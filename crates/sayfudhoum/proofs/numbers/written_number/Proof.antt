@@ -12,8 +12,8 @@ written_number_spec =
     tie.close
     (tie.spec
     (λ c. search rules)
-    (λ c. omega (arith, written_count _ _ c.in-Count.is c.requires))
+    (λ c. omega (arith, written_count _ _ c.in-Ok.is c.requires))
     (λ c. search rules)
-    (λ c κs. written_place _ _ c.in-Refused.is c.requires)
-    (λ c. sym (ap written_number c.in-Count.is))
-    (λ c. c.refusal_number.ensures ∙ sym (ap written_number c.in-Refused.is)))
+    (λ c κs. written_place _ _ c.in-Err.is c.requires)
+    (λ c. sym (ap written_number c.in-Ok.is))
+    (λ c. c.refusal_number.ensures ∙ sym (ap written_number c.in-Err.is)))

@@ -1,0 +1,9 @@
+-- `spell` stores byte after byte within the lent buffer.
+use Rattle.std.proofs.Common.{◌≤◌, length}
+use Rattle.cases.proofs.groups.spell.Given as goal
+
+abbrev pub invariant-loop-left : goal.invariant-loop-left
+invariant-loop-left l = (l.at ≤ l.total) × (l.total ≤ length l.bytes)
+
+abbrev pub decreases-loop-left : goal.decreases-loop-left
+decreases-loop-left l = length l.left

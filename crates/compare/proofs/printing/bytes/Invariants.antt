@@ -1,9 +1,0 @@
--- `bytes` prints byte after byte.
-use Rattle.std.proofs.Common.{◌-◌, ◌≤◌, length}
-use Rattle.compare.proofs.printing.bytes.Given as goal
-
-abbrev pub invariant-loop-i : goal.invariant-loop-i
-invariant-loop-i l = l.i ≤ length l.file
-
-abbrev pub decreases-loop-i : goal.decreases-loop-i
-decreases-loop-i l = length l.file - l.i
