@@ -21,15 +21,18 @@ pub fn smallest_mask(entries: &[u64], class: u32, sets: u8) -> Option<u32>
     let mut why = [0u32; 32];
     let mut notes = EntryNotes::NONE;
     let mut i: usize = 0;
+    // The smallest that fits is the one taken, and the trial is left: the walk over the entries goes on from where the last one stopped.
     'masks: loop {
-        // A `while`: a `for` would start anew, and the next walk goes on from where this one stopped.
-        'entries: while i < entries.len() && meets(entries[i], class, m) {
+        let decided = 'entries: loop {
+            if i >= entries.len() {
+                break 'masks Some(m);
+            }
+            let entry = entries[i];
+            if !meets(entry, class, m) {
+                break 'entries blame(test_in(entry), m);
+            }
             i += 1;
-        }
-        if i == entries.len() {
-            return Some(m);
-        }
-        let decided = blame(test_in(entries[i]), m);
+        };
         let q = next_mask(m, &mut why, decided, bits)?;
         m = raise(m, q);
         notes.note_up_to(entries, class, bits, i);

@@ -11,7 +11,7 @@ use Rattle.mask.proofs.LeastLaws.{meets_all, least_mask_one}
 use Rattle.mask.proofs.WalkLaws.{walk_decided, walk_end}
 use Rattle.mask.proofs.NoteLaws.{notes_start, before_start, meets_raised}
 use Rattle.mask.proofs.masks.smallest_mask.Goals as goal
-use Rattle.mask.proofs.masks.smallest_mask.Goals.{After-blame-decided, then-entries-test+else-meets, else-entries-test}
+use Rattle.mask.proofs.masks.smallest_mask.Goals.{After-blame-decided}
 
 pub masks-init : goal.masks-init
 masks-init c = record {
@@ -22,8 +22,8 @@ masks-init c = record {
   notes = before_start _ _ _ _ (notes_start 32 65535 _ (omega arith));
 }
 
-pub returns-then-i-entries : goal.returns-then-i-entries
-returns-then-i-entries c =
+pub returns : goal.returns
+returns c =
     let a = c.args in
     let m = c.masks.m in
     let below = rw c.min-bits.ensures at c.masks.invariant.bits in
@@ -36,10 +36,7 @@ decided : (c : After-blame-decided) → IsDecided (meets_all (rows_of_entries c.
 decided c =
     let a = c.args in
     rw (c.blame-decided.ensures, c.test_in.ensures.value)
-    (elim c.entries-test.branch [
-      | then-entries-test+else-meets w ↦ walk_decided a.class a.entries.now c.masks.m c.entries.i w.entries-test.true (sym w.meets.ensures ∙ w.if-meets.false)
-      | else-entries-test w ↦ absurd (omega (arith, c.if-i-entries.false, w.entries-test.false))
-    ])
+    (walk_decided a.class a.entries.now c.masks.m c.entries.i c.if-i-entries.false (sym c.meets.ensures ∙ c.if-not-meets.true))
 
 pub returns-in_err-q : goal.returns-in_err-q
 returns-in_err-q c =
