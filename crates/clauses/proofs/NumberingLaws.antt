@@ -1,11 +1,13 @@
 -- The numbers of variables as sums, and how large they are at the most where the terms and sets fit in a byte.
-use Prim.Native.Nat.{ℕ, zero, suc, ◌+◌, ◌-◌, ◌*◌, ◌≤◌}
-use mathlib.Core.Path.{◌≡◌, refl, sym, ap, ap₂, ◌∙◌}
+use Prim.Native.Nat.{ℕ, zero, suc, ◌+◌, ◌-◌, ◌*◌, ◌≤◌, ◌<◌}
+use mathlib.Core.Path.{◌≡◌, refl, sym, ap, ap₂, subst, ◌∙◌}
 use mathlib.Core.List.{[], ◌∷◌, ◌++◌}
 use native.Mathlib.Omega.{arith}
 use native.Mathlib.Nat.{mul-le-mul_left}
 use native.Mathlib.Numerals.{add-one}
-use Rattle.std.specs.List.{sum, sum_by, range_with_len}
+use Rattle.std.specs.Prelude.{Option}
+use Rattle.std.specs.List.{fold, sum, sum_by, range_with_len}
+use Rattle.std.specs.Iterator.Runs.{EachRunFrom, WholeRun}
 use Rattle.std.proofs.Common.{zero-add}
 use Rattle.std.proofs.lemmas.List.{map-id}
 use Rattle.std.proofs.lemmas.List.FromFn.{map-range_with_len_more}
@@ -25,6 +27,10 @@ pair_index_most terms (suc c) d h k = omega (arith, pair_index_most (terms - 1) 
 -- a product of two bytes
 pub product_most : (m n : ℕ) → m ≤ 255 → n ≤ 255 → m * n ≤ 65025
 product_most m n h k = omega (arith, mul-le-mul_left m k)
+
+-- a sum is below what the sum of each run is below
+pub sum_below : {S : Type 0} {steps : S → Option ℕ → S → Type 0} {s : S} (r n : ℕ) → WholeRun steps s (λ p. r ≡ fold (λ a x. a + x) 0 p.items) → EachRunFrom steps s (λ p. fold (λ a x. a + x) 0 p.items < n) → r < n
+sum_below r n run each = subst (λ k. k < n) (sym run.3) (each run.0 run.0.seen run.1)
 
 -- so many pairs as the numbers below sum up to
 pub pair_count_sum : (n : ℕ) → pair_count n ≡ sum (range_with_len 0 n)

@@ -9,7 +9,6 @@ use native.Mathlib.Omega.{arith}
 use lib.ListN.{length}
 use Rattle.question.specs.declared.questions.Question.{Question}
 use Rattle.outcome.specs.declared.refusals.Refusal.{Refusal}
-use Rattle.answer.specs.declared.answers.Answer.{Answer}
 use Rattle.decision.specs.Answers.{question_answered, question_answered_over}
 use Rattle.question.specs.Questions.{terms_of}
 use Rattle.question.specs.Checks.{checked}

@@ -2,7 +2,7 @@
 use Rattle.std.proofs.Common.{Option as Possibly, Result, Ok, Err}
 use Prim.Native.Nat.{ℕ, ◌<◌}
 use mathlib.Core.Path.{◌≡◌, refl, sym, ap, ◌∙◌}
-use mathlib.Core.List.{List, map}
+use mathlib.Core.List.{List}
 use mathlib.Core.Option.{Option, none, some}
 use borrow.Author.Tests.{lt-ltb}
 use Rattle.outcome.specs.declared.refusals.Refusal.{Refusal}
@@ -18,7 +18,6 @@ use Rattle.theory.specs.Solutions.{Solution}
 use Rattle.theory.specs.FirstModels.{first_model}
 use Rattle.theory.specs.Sets.{fits}
 use Rattle.theory.specs.Answers.{mask_bound, answer}
-use Rattle.row.specs.Rows.{row_of}
 use Rattle.row.specs.Checks.{rows_checked}
 use Rattle.reduction.specs.Reducing.{packed_rows}
 use Rattle.reduction.proofs.ReducedRows.{rows_pass, rows_say}
@@ -78,11 +77,15 @@ module _ (q : Question) where
   shown_answer (some sol) = refl
 
   -- the search of an accepted question is not refused, and what it finds is the decision
-  pub shown_decided : (r : Result (Possibly Found) Refusal) → checked q ≡ Ok tt → r ≡ table_searched q → (found : Possibly Found) → r ≡ Ok found → Ok (shown found) ≡ decided q
-  shown_decided r e s found f =
+  pub found_decided : (r : Result (Possibly Found) Refusal) → checked q ≡ Ok tt → r ≡ table_searched q → (found : Possibly Found) → r ≡ Ok found → Ok (shown found) ≡ decided q
+  found_decided r e s found f =
       let both : ◌≡◌ {A = Result (Possibly Found) Refusal} (Ok found) (Ok (found_shown (answer q))) = sym f ∙ s ∙ table_answer e in
       let same : found ≡ found_shown (answer q) = cc in
       ap (λ x. Ok (shown x)) same ∙ ap Ok (shown_answer (answer q)) ∙ sym (decided_accepted e)
+
+  -- so the search of an accepted question finds what is decided
+  pub shown_decided : checked q ≡ Ok tt → (found : Possibly Found) × (table_searched q ≡ Ok found) × (Ok (shown found) ≡ decided q)
+  shown_decided e = (found_shown (answer q), table_answer e, ap Ok (shown_answer (answer q)) ∙ sym (decided_accepted e))
 
   pub never_refused : (r : Result (Possibly Found) Refusal) (why : Refusal) → checked q ≡ Ok tt → r ≡ table_searched q → r ≡ Err why → Err why ≡ decided q
   never_refused r why e s f = let both : ◌≡◌ {A = Result (Possibly Found) Refusal} (Err why) (answer_of (answer q)) = sym f ∙ s ∙ table_answer e in refused_ok both

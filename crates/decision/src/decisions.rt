@@ -42,6 +42,7 @@ pub fn search_table(q: Question) -> Result<Option<Found>, Refusal>
 }
 
 // The answer to a question: its first model, or that it is impossible; or why the table is refused.
+#[tactic(auto, using(crate::proofs::DecisionLaws::found_decided, crate::proofs::DecisionLaws::never_refused, crate::proofs::DecisionLaws::decided_refused), unfolding(crate::specs::Decisions::decided))]
 pub fn decide(q: Question) -> Result<Answer, Refusal>
     ensures { result ≡ decided q }
 {

@@ -1,5 +1,5 @@
 -- The walk over clauses: one part behind another, and that there is room for what is left.
-use Prim.Native.Nat.{ℕ, suc, ◌+◌, ◌-◌, ◌≤◌, ◌<◌}
+use Prim.Native.Nat.{ℕ, zero, suc, ◌+◌, ◌-◌, ◌≤◌, ◌<◌}
 use mathlib.Core.Path.{◌≡◌, refl, sym, ap, ap₂, subst, ◌∙◌}
 use mathlib.Core.List.{List, [], ◌∷◌, ◌++◌, map, append_assoc}
 use native.Mathlib.Omega.{arith}
@@ -18,6 +18,7 @@ use Rattle.row.specs.Rows.{row_of}
 use Rattle.dimacs.specs.declared.writers.Writer.{Writer}
 use Rattle.clauses.specs.Clauses.{Clause, for_each}
 use Rattle.clauses.specs.Texts.{clause_line, problem, first_line}
+use Rattle.clauses.proofs.WalkLaws.{for_each_append}
 use Rattle.dimacs.specs.Walks.{word_text, end_text, number_text, put, Fitting, wrote_one, wrote, Room, each}
 
 module _ (w : Writer) where
@@ -122,6 +123,22 @@ module _ {w v : Writer} {all : List Clause} (xs rest : List Clause) (left : Left
     room = subst (λ k. Room k rest) (sym e) (room_append v xs rest left.room).1;
   }
 
+-- upward in two parts
+upward_split : (m n s : ℕ) → upward (m + n) s ≡ upward m s ++ upward n (s + m)
+upward_split zero n s = ap₂ upward (let z : 0 + n ≡ n = omega arith in z) (let z : s ≡ s + 0 = omega arith in z)
+upward_split (suc m) n s =
+    ap (λ k. upward k s) (let z : suc m + n ≡ suc (m + n) = omega arith in z)
+    ∙ ap (λ l. s ∷ l) (upward_split m n (suc s) ∙ ap (λ k. upward m (suc s) ++ upward n k) (let z : suc s + m ≡ s + suc m = omega arith in z))
+
+-- the clauses of numbers in two parts
+module _ (f : ℕ → List Clause) (s : ℕ) where
+  each_split : (d n : ℕ) → s ≤ d → d ≤ n → each f s n ≡ each f s d ++ each f d n
+  each_split d n h k =
+      ap (λ m. for_each (upward m s) f) (let z : n - s ≡ (d - s) + (n - d) = omega arith in z)
+      ∙ ap (λ l. for_each l f) (upward_split (d - s) (n - d) s)
+      ∙ for_each_append f (upward (d - s) s) (upward (n - d) (s + (d - s)))
+      ∙ ap (λ m. each f s d ++ for_each (upward (n - d) m) f) (let z : s + (d - s) ≡ d = omega arith in z)
+
 -- a loop over numbers: those from d on are left
 module _ (f : ℕ → List Clause) (d n : ℕ) where
   each_more : d < n → each f d n ≡ f d ++ each f (d + 1) n
@@ -130,7 +147,7 @@ module _ (f : ℕ → List Clause) (d n : ℕ) where
       ap (λ k. for_each (upward k d) f) (let z : n - d ≡ suc (n - suc d) = omega arith in z)
       ∙ ap (λ k. f d ++ each f k n) (sym (add-one d))
 
-  each_none : n ≤ d → each f d n ≡ []
+  pub each_none : n ≤ d → each f d n ≡ []
   unfolding for_each
   each_none h = ap (λ k. for_each (upward k d) f) (let z : n - d ≡ 0 = omega arith in z)
 

@@ -7,6 +7,7 @@ use outcome::Refusal;
 use question_file::read_question;
 
 // The refusals of the file, then 10. A refused call leaves the buffer as it was.
+#[tactic(auto, using(question_file::proofs::RoundTrips::question_checked), unfolding(crate::specs::Writes::file_clauses, crate::specs::Writes::file_clauses_over, crate::specs::Writes::clauses_written, crate::specs::Writes::clauses_written_over))]
 pub fn clauses_file(bytes: &[u8], buf: &mut [u8]) -> Result<usize, Refusal>
     ensures { (result ≡ file_clauses bytes.now (length buf.old)) × (buf.new ≡ file_clauses_over bytes.now buf.old) }
 {

@@ -23,6 +23,7 @@ fn first_failing(q: &Question, m: &Model) -> Option<usize>
 
 // The judgement of a table as it stands and a model, both lent, so that neither is copied: 11 at place 0 for a bad model;
 // else the index of the first statement that fails, or none if every statement holds.
+#[tactic(auto, using(crate::proofs::FailingLaws::judged_as_found), unfolding(crate::specs::Judgements::model_judged))]
 pub fn judge_lent(q: &Question, m: &Model) -> Result<Option<usize>, Refusal>
     ensures { result ≡ model_judged q.now m.now }
 {

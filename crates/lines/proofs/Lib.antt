@@ -1,4 +1,5 @@
 -- Laws of the steps and of the walk, by which the functions are proved; then that the reader accepts exactly the texts of document 02's sentence, of which the lines that truth values write are one.
+pub mod TableLaws
 pub mod NumberedLaws
 pub mod StepLaws
 pub mod CutLaws

@@ -80,7 +80,7 @@ module _ (most at : ℕ) (r : Reading) where
   walk_end [] h = refl
   walk_end (b ∷ rest) h = absurd (omega arith)
 
-  walk_stops : (rest : List ℕ) → 0 < length rest → Free line_end rest → lines_from most at r (pieces line_end rest) ≡ bad_at at
+  pub walk_stops : (rest : List ℕ) → 0 < length rest → Free line_end rest → lines_from most at r (pieces line_end rest) ≡ bad_at at
   unfolding lines_from
   walk_stops [] h free = absurd (omega arith)
   walk_stops (b ∷ rest) h free = ap (lines_from most at r) (free_piece line_end (b ∷ rest) free)
@@ -89,7 +89,7 @@ module _ (most at : ℕ) (r : Reading) where
   pub walk_open : {rest line tail : List ℕ} {i : ℕ} → IsCut line_end rest line tail i → bytes_eq (drop (length line - 1) line) (line_end ∷ []) ≡ false → lines_from most at r (pieces line_end rest) ≡ bad_at at
   walk_open {rest = rest} c e = walk_stops rest c.some (cut_open line_end c e)
 
-  walk_goes : (line rest : List ℕ) → Free line_end line → lines_from most at r (pieces line_end (line ++ (line_end ∷ rest))) ≡
+  pub walk_goes : (line rest : List ℕ) → Free line_end line → lines_from most at r (pieces line_end (line ++ (line_end ∷ rest))) ≡
       stood_then at (line_step most r line) (lines_from most (at + suc (length line)) (line_step most r line) (pieces line_end rest))
   walk_goes line rest free = ap (lines_from most at r) (piece_then line_end line rest free) ∙ line_then line (pieces line_end rest) (any_piece line_end rest)
 

@@ -37,7 +37,7 @@ pub fn read_lines(lines: &[u8], most: u32) -> Result<Reading, Refusal>
         let Some(text) = line.strip_suffix(&[LINE_END]) else {
             return bad_at(at);
         };
-        r = line_step(r, text, most);
+        line_step(&mut r, text, most);
         if r.stage == Stage::Fault {
             return bad_at(at);
         }

@@ -1,4 +1,4 @@
-// What a line does to what was read before it. A step gives the next reading, as its definition does.
+// What a line does to what was read before it. The reading is lent from step to step, since its table is not to be copied for each line.
 ghost use Rattle.std.specs.Prelude.{◌≡◌};
 ghost use Rattle.text.specs.Pieces.{space, pieces};
 ghost use Rattle.lines.specs.Steps.{is_comment, value_line, first_line, said_step, line_step};
@@ -15,36 +15,38 @@ const SATISFIABLE: &[u8] = b"s SATISFIABLE";
 const UNSATISFIABLE: &[u8] = b"s UNSATISFIABLE";
 
 // The first line says whether the clauses can be satisfied.
-fn first_line(r: Reading, line: &[u8]) -> Reading
-    ensures { result ≡ first_line r line.now }
+fn first_line(r: &mut Reading, line: &[u8])
+    ensures { r.new ≡ first_line r.old line.now }
 {
     if line == SATISFIABLE {
-        return r.at_stage(Stage::Values);
+        r.stage = Stage::Values;
+        return;
     }
     if line == UNSATISFIABLE {
-        return r.at_stage(Stage::Refuted);
+        r.stage = Stage::Refuted;
+        return;
     }
-    r.at_stage(Stage::Fault)
+    r.stage = Stage::Fault;
 }
 
 // A `v` line has at least one number, with one space before each.
-fn value_line(r: Reading, line: &[u8], most: u32) -> Reading
-    ensures { result ≡ value_line most r (pieces space line.now) }
+fn value_line(r: &mut Reading, line: &[u8], most: u32)
+    ensures { r.new ≡ value_line most r.old (pieces space line.now) }
 {
     match line {
         [b'v', SPACE, words @ ..] => word_steps(r, words, most),
-        _ => r.at_stage(Stage::Fault),
+        _ => r.stage = Stage::Fault,
     }
 }
 
 // A line that is no comment, by what was read before.
-fn said_step(r: Reading, line: &[u8], most: u32) -> Reading
-    ensures { result ≡ said_step most r line.now }
+fn said_step(r: &mut Reading, line: &[u8], most: u32)
+    ensures { r.new ≡ said_step most r.old line.now }
 {
     match r.stage {
         Stage::Start => first_line(r, line),
         Stage::Values => value_line(r, line, most),
-        _ => r.at_stage(Stage::Fault),
+        _ => r.stage = Stage::Fault,
     }
 }
 
@@ -55,11 +57,11 @@ fn is_comment(line: &[u8]) -> bool
 }
 
 // Any line.
-pub(crate) fn line_step(r: Reading, line: &[u8], most: u32) -> Reading
-    ensures { result ≡ line_step most r line.now }
+pub(crate) fn line_step(r: &mut Reading, line: &[u8], most: u32)
+    ensures { r.new ≡ line_step most r.old line.now }
 {
     if is_comment(line) {
-        return r;
+        return;
     }
-    said_step(r, line, most)
+    said_step(r, line, most);
 }

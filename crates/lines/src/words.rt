@@ -51,10 +51,10 @@ fn word_step(r: Reading, word: &[u8], most: u32) -> Reading
 }
 
 // The words of some bytes, one space between them.
-pub(crate) fn word_steps(r: Reading, words: &[u8], most: u32) -> Reading
-    ensures { result ≡ word_steps most r (pieces space words.now) }
+pub(crate) fn word_steps(r: &mut Reading, words: &[u8], most: u32)
+    ensures { r.new ≡ word_steps most r.old (pieces space words.now) }
 {
-    words
+    *r = words
         .split(|b| *b == SPACE)
-        .fold(r, |r, word| word_step(r, word, most))
+        .fold(*r, |r, word| word_step(r, word, most));
 }

@@ -3,6 +3,7 @@
 pub mod RaisedLaws
 pub mod ReasonLaws
 pub mod BitLaws
+pub mod RowLaws
 pub mod EntryLaws
 pub mod LowestLaws
 pub mod BlameLaws

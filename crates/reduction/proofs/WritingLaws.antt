@@ -11,7 +11,7 @@ use Rattle.row.specs.Rows.{pack_row}
 use Rattle.reduction.specs.Rules.{rule_rows, each_term}
 
 module _ (t : Test) (terms : ℕ) where
-  each_packed : each_term t terms ≡ map (λ c. pack_row (row c t)) (upward terms 0)
+  pub each_packed : each_term t terms ≡ map (λ c. pack_row (row c t)) (upward terms 0)
   each_packed = map-map pack_row (λ c. row c t) (upward terms 0)
 
   pub each_length : length (each_term t terms) ≡ terms

@@ -20,8 +20,8 @@ fn put_one(term: u8, test: Test, rows: &mut [u32]) -> usize
 
 // The same test for each term, terms going upward.
 fn put_each(test: Test, terms: usize, rows: &mut [u32]) -> usize
-    requires { (terms ≤ 12) × (terms ≤ length rows.old) }
-    ensures { (result ≡ terms) × (rows.new ≡ over (each_term (said test) terms) rows.old) }
+    requires { (terms ≤ 12) × (length (each_term (said test) terms) ≤ length rows.old) }
+    ensures { (result ≡ length (each_term (said test) terms)) × (rows.new ≡ over (each_term (said test) terms) rows.old) }
 {
     let parts = RowParts::new(0, test);
     for c in 0..terms {

@@ -1,4 +1,4 @@
-// What a row asks of its term, and the parts that say it: here alone stand the numbers of the kinds.
+// What a row asks of its term, and the parts that say it: here alone stand the numbers of the kinds, but for a table of weights in search, which is read by them.
 ghost use Rattle.std.specs.Prelude.{◌≡◌};
 ghost use Rattle.theory.specs.Rules.{row};
 ghost use Rattle.row.specs.Rows.{row_of_parts, parts_of_row};

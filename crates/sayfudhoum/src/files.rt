@@ -10,6 +10,7 @@ use outcome::Refusal;
 use question_file::read_question;
 
 // The decision of a question file: the refusals of the file, else the answer to its question.
+#[tactic(auto, using(question_file::proofs::RoundTrips::question_checked), unfolding(crate::specs::Files::file_decided, decision::specs::Decisions::decided))]
 pub fn decide_file(bytes: &[u8]) -> Result<Answer, Refusal>
     ensures { result ≡ file_decided bytes.now }
 {
@@ -17,6 +18,7 @@ pub fn decide_file(bytes: &[u8]) -> Result<Answer, Refusal>
 }
 
 // The answer to a question file, written into a lent buffer: the refusals of the file, then 10. A refused call leaves the buffer as it was.
+#[tactic(auto, using(question_file::proofs::RoundTrips::question_checked), unfolding(crate::specs::Files::answered, crate::specs::Files::answered_over, decision::specs::Answers::question_answered, decision::specs::Answers::question_answered_over))]
 pub fn answer_file(bytes: &[u8], buf: &mut [u8]) -> Result<usize, Refusal>
     ensures { (result ≡ answered bytes.now (length buf.old)) × (buf.new ≡ answered_over bytes.now buf.old) }
 {

@@ -1,5 +1,5 @@
 -- The terms of each class: at the start, with one term more placed, and how large the groups are.
-use Prim.Native.Nat.{ℕ, suc, ◌+◌, ◌^◌, ◌<◌, max}
+use Prim.Native.Nat.{ℕ, suc, ◌+◌, ◌^◌, ◌≤◌, ◌<◌, max}
 use mathlib.Core.Path.{◌≡◌, sym, ap, ◌∙◌}
 use mathlib.Core.List.{List, [], ◌∷◌, ◌++◌}
 use native.Mathlib.Omega.{arith}
@@ -12,7 +12,7 @@ use Rattle.question.specs.Limits.{max_terms}
 use Rattle.theory.specs.Arrangements.{classes}
 use Rattle.theory.proofs.ArrangementLaws.{classes_append}
 use Rattle.cut.specs.Members.{members}
-use Rattle.cut.proofs.MembersLaws.{members_last, members_other}
+use Rattle.cut.proofs.MembersLaws.{members_below, members_last, members_other}
 use Rattle.search.specs.Groups.{GroupsOf}
 use Rattle.search.specs.Placings.{Placing}
 use Rattle.search.proofs.PlacingLaws.{placed_length, next_taken}
@@ -47,7 +47,15 @@ count_more arrangement t count inside e = ap (max count) (add-one c) ∙ ap (λ 
     c : ℕ
     c = get_or arrangement t 0
 
+-- a group has only terms that come before
+pub group_small : (arrangement groups : List ℕ) (t : ℕ) → t ≤ length arrangement → GroupsOf arrangement t groups → (k : ℕ) → k < max_terms → get_or groups k 0 < 2 ^ t
+group_small arrangement groups t le of k lt = omega (arith, of.are k lt, members_below k (take t arrangement), ap (λ n. 2 ^ n) (length-take-le t arrangement le))
+
 module _ {arrangement groups : List ℕ} {placed used : ℕ} (here : Placing arrangement placed used) (of : GroupsOf arrangement placed groups) where
+  -- a group has only terms that are placed
+  pub group_below : (k : ℕ) → k < max_terms → get_or groups k 0 < 2 ^ placed
+  group_below k lt = group_small arrangement groups placed (omega (arith, here.long, here.few_terms)) of k lt
+
   -- the next term in the class c
   pub groups_next : (c : ℕ) → placed < max_terms → c < max_terms → (next : List ℕ) → next ≡ set groups c (bit_or (get_or groups c 0) (2 ^ placed)) → GroupsOf (set arrangement placed c) (placed + 1) next
   groups_next c room lt next is = record {

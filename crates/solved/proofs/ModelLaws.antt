@@ -1,8 +1,10 @@
 -- The model that values say: one set more of a mask, and the lowest earlier term that passes a test.
-use Prim.Native.Nat.{ℕ, zero, suc, ◌+◌, ◌*◌, ◌%◌, ◌^◌, ◌<◌}
+use Prim.Native.Nat.{ℕ, zero, suc, ◌+◌, ◌*◌, ◌%◌, ◌^◌, ◌≤◌, ◌<◌}
 use mathlib.Core.Path.{◌≡◌, refl, sym, ap, ◌∙◌}
 use mathlib.Core.Bool.{Bool, true, false, cond}
 use mathlib.Core.Option.{Option, none, some}
+use mathlib.Core.List.{List}
+use lib.ListN.{length, get_or-eq_default}
 use Rattle.std.specs.Prelude as Found
 use Rattle.std.specs.List.{find, range_with_len}
 use native.Mathlib.Omega.{arith}
@@ -10,12 +12,17 @@ use native.Mathlib.Numerals.{add-one}
 use Rattle.std.proofs.Math.Pow.{pow-lt}
 use Rattle.std.specs.Int.Bits.{bit_or, or_shifted_r}
 use Rattle.outcome.proofs.Never.{never}
+use Rattle.lines.specs.Values.{unsaid, is_true, truth_of}
 use Rattle.question.specs.Limits.{max_sets}
 use Rattle.theory.specs.Searches.{first_from, first_passing}
 use Rattle.clauses.specs.Variables.{in_variable}
 use Rattle.clauses.specs.Meaning.{Truth}
 use Rattle.clauses.specs.Models.{mask_up_to}
 use Rattle.clauses.proofs.PlacedLaws.{mask_below}
+
+-- past the table nothing is said to be true
+pub true_past : (t : List (Found.Option Bool)) (v : ℕ) → length t ≤ v → truth_of t v ≡ false
+true_past t v h = ap is_true (get_or-eq_default t unsaid h)
 
 module _ (terms sets : ℕ) (truth : Truth) (c : ℕ) where
   pub mask_none : mask_up_to terms sets truth 0 c ≡ 0

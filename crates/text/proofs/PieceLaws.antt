@@ -1,12 +1,12 @@
 -- The pieces of some bytes: the first one and those behind its separator; joined they are the bytes, and pieces that are joined come apart again.
-use Prim.Native.Nat.{ℕ, suc}
+use Prim.Native.Nat.{ℕ, suc, ◌≤◌}
 use mathlib.Core.Path.{◌≡◌, refl, sym, ap, ap₂, ◌∙◌}
 use mathlib.Core.Bool.{Bool, true, false, cond}
 use mathlib.Core.List.{List, [], ◌∷◌, ◌++◌}
 use native.Mathlib.Omega.{arith}
 use borrow.Author.Tests.{eq-eqb, ne_eqb, eqb-true}
 use lib.Dec.{eqb}
-use lib.ListN.{length}
+use lib.ListN.{length, take}
 use Rattle.std.specs.List.{slice_split, onto_first}
 use Rattle.outcome.proofs.Never.{never}
 use Rattle.text.specs.Pieces.{until, in_front, pieces, joined, Free, AllFree}
@@ -22,8 +22,27 @@ module _ (sep : ℕ) where
       go [] t = refl
       go (p ∷ ps) t = refl
 
+  -- the bytes before the first separator: no more than there are, and the first so many
+  pub until_within : (bytes : List ℕ) → length (until sep bytes) ≤ length bytes
+  unfolding until
+  until_within [] = omega arith
+  until_within (b ∷ bytes) = go (eqb b sep) (until_within bytes)
+    where
+      go : (t : Bool) → length (until sep bytes) ≤ length bytes → length (cond t [] (b ∷ until sep bytes)) ≤ suc (length bytes)
+      go true h = omega arith
+      go false h = omega arith
+
+  until_takes : (bytes : List ℕ) → until sep bytes ≡ take (length (until sep bytes)) bytes
+  unfolding until
+  until_takes [] = refl
+  until_takes (b ∷ bytes) = go (eqb b sep) (until_takes bytes)
+    where
+      go : (t : Bool) → until sep bytes ≡ take (length (until sep bytes)) bytes → cond t [] (b ∷ until sep bytes) ≡ take (length (cond t [] (b ∷ until sep bytes))) (b ∷ bytes)
+      go true h = refl
+      go false h = ap (λ l. b ∷ l) h
+
   -- no separator: one piece
-  one_piece : (bytes : List ℕ) → length (until sep bytes) ≡ length bytes → pieces sep bytes ≡ bytes ∷ []
+  pub one_piece : (bytes : List ℕ) → length (until sep bytes) ≡ length bytes → pieces sep bytes ≡ bytes ∷ []
   unfolding until pieces
   one_piece [] h = refl
   one_piece (b ∷ bytes) h = go (eqb b sep) h (one_piece bytes)

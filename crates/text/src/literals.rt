@@ -1,7 +1,7 @@
 // Literals: the number of a variable, with a minus in front where it is denied.
-ghost use Rattle.std.specs.Prelude.{◌≡◌, length};
+ghost use Rattle.std.specs.Prelude.{◌≡◌, eqb, length};
 ghost use Rattle.text.specs.Laid.{laid};
-ghost use Rattle.text.specs.Literals.{literal_text, denial, word_read};
+ghost use Rattle.text.specs.Literals.{minus, literal_text, denial, word_read};
 
 use crate::bytes::put_byte;
 use crate::decimals::{decimal_in, put_digits};
@@ -40,12 +40,19 @@ fn denial(variable: usize) -> Option<Literal>
     })
 }
 
+// Is a byte the one sign.
+fn is_minus(byte: u8) -> bool
+    ensures { result ≡ eqb byte minus }
+{
+    byte == MINUS
+}
+
 // What a word says, where variables go up to `most`.
 pub fn literal_in(word: &[u8], most: u32) -> Option<Literal>
     ensures { result ≡ word_read most word.now }
 {
     match word {
-        [MINUS, digits @ ..] => denial(decimal_in(digits, most)?),
+        [first, digits @ ..] if is_minus(*first) => denial(decimal_in(digits, most)?),
         _ => Some(Literal {
             denied: false,
             variable: decimal_in(word, most)?,

@@ -6,8 +6,8 @@ ghost use Rattle.text.specs.Pieces.{until};
 pub fn piece_length(bytes: &[u8], separator: u8) -> usize
     ensures { result ≡ length (until separator bytes.now) }
 {
-    bytes
-        .iter()
-        .position(|b| *b == separator)
-        .unwrap_or(bytes.len())
+    match bytes.iter().position(|b| *b == separator) {
+        Some(at) => at,
+        None => bytes.len(),
+    }
 }

@@ -1,5 +1,5 @@
 -- `write_clauses` reduces the question; a refusal is the table's, and the rows of an accepted one make its text.
-use mathlib.Core.Path.{◌≡◌, sym, ap, ◌∙◌}
+use mathlib.Core.Path.{sym, ap, ◌∙◌}
 use Rattle.std.proofs.lemmas.Result.{err_from_is_err_and}
 use native.Mathlib.Omega.{arith}
 use lib.ListN.{length, replicate}

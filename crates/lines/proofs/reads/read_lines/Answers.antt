@@ -27,7 +27,7 @@ pub returns-then-eq : goal.returns-then-eq
 returns-then-eq c =
     let l = c.loop-line in
     let cut = turn _ line_end c.into_iter-line-iterator.result l.line-iterator c.next.new.self l.yielded c.in-Some.line l.yielded_by (λ x b q k. search (rules, tests)) c.in-Some.ensures.steps in
-    c.bad_at-then-eq.ensures ∙ sym (l.invariant.comes ∙ walk_line _ _ _ cut _ (search rules) (search rules) _ c.line_step-r.ensures ∙ fell _ c.line_step-r.result _ (at_fault _ true c.if-eq.ensures))
+    c.bad_at-then-eq.ensures ∙ sym (l.invariant.comes ∙ walk_line _ _ _ cut _ (search rules) (search rules) _ c.line_step.ensures ∙ fell _ c.line_step.new.r _ (at_fault _ true c.if-eq.ensures))
 
 pub loop-line-preserved : goal.loop-line-preserved
 loop-line-preserved c =
@@ -37,7 +37,7 @@ loop-line-preserved c =
       can = search of_calls;
       finite = search of_calls;
       place = omega (arith, l.invariant.place, ap length cut.whole, length-append c.in-Some.line.now (split_inclusive_rest c.next.new.self));
-      comes = l.invariant.comes ∙ walk_line _ _ _ cut _ (search rules) (search rules) _ c.line_step-r.ensures ∙ stood _ c.line_step-r.result _ (at_fault _ false c.if-eq.ensures);
+      comes = l.invariant.comes ∙ walk_line _ _ _ cut _ (search rules) (search rules) _ c.line_step.ensures ∙ stood _ c.line_step.new.r _ (at_fault _ false c.if-eq.ensures);
     }
 
 pub returns : goal.returns

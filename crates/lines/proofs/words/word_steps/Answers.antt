@@ -13,5 +13,5 @@ pub returns : goal.returns
 returns c =
     let a = c.args in
     let split = c.split.ensures in
-    fold_from_yields_List _ (word_step a.most) a.r c.fold.result c.fold.ensures.ran (YieldsList-from_slice_split _ (λ b. eqb b space) a.words.now split.rest split.done split.closure (λ x b q k. search (rules, tests))) (λ r x s q k. search (rules, tests))
-    ∙ words_fold a.most a.r (slice_split (λ b. eqb b space) a.words.now) ∙ ap (word_steps a.most a.r) (split_pieces space a.words.now)
+    fold_from_yields_List _ (word_step a.most) a.r.now c.fold.result c.fold.ensures.ran (YieldsList-from_slice_split _ (λ b. eqb b space) a.words.now split.rest split.done split.closure (λ x b q k. search (rules, tests))) (λ r x s q k. search (rules, tests))
+    ∙ words_fold a.most a.r.now (slice_split (λ b. eqb b space) a.words.now) ∙ ap (word_steps a.most a.r.now) (split_pieces space a.words.now)

@@ -14,8 +14,7 @@ pub loop-entry-preserved : goal.loop-entry-preserved
 loop-entry-preserved c =
     let q = c.args.q in
     let l = c.loop-entry in
-    let n = c.statement_count.result in
-    let next = statements_turn q n l.entry-index idle (omega (arith, c.statement_count.ensures.0, statements_length q)) c.loop-entry-test.true in
+    let next = statements_turn q _ l.entry-index idle (omega (arith, c.statement_count.ensures.0, statements_length q)) c.loop-entry-test.true in
     let w = c.witness_of-total.ensures in
     (omega (arith, witness_small), rw w (l.invariant.1 ∙ terms_turn q l.entry-index l.total _ next))
 
@@ -23,5 +22,5 @@ pub returns : goal.returns
 returns c =
     let q = c.args.q in
     let l = c.loop-entry in
-    let left = statements_left q c.statement_count.result l.entry-index (omega (arith, c.statement_count.ensures.0)) c.loop-entry-test.false in
+    let left = statements_left q _ l.entry-index (omega (arith, c.statement_count.ensures.0)) c.loop-entry-test.false in
     sym (l.invariant.1 ∙ terms_end q l.entry-index l.total left)

@@ -2,6 +2,7 @@
 use Rattle.std.proofs.Common.{◌≡◌, ◌+◌, ◌≤◌, length, get_or, take, ap, ◌∙◌, length-append, arith}
 use Rattle.field.specs.declared.tags.File.TheVariants.{Question as QuestionFile}
 use Rattle.field.specs.Writes.{field_length}
+use Rattle.field.proofs.WriteLaws.{length_bounded}
 use Rattle.question.specs.Questions.{idle}
 use Rattle.question_file.specs.Bytes.{statement_bytes}
 use Rattle.question_file.proofs.BodyLaws.{field}
@@ -10,7 +11,10 @@ use Rattle.question_file.proofs.writes.file_length.Goals as goal
 use Rattle.question_file.proofs.writes.file_length.Goals.{After-field_length-total}
 
 pub overflow_add-total : goal.overflow_add-total
-overflow_add-total c = omega (arith, names_length, end_length, c.field_length.ensures, c.field_length-2.ensures)
+overflow_add-total c =
+    let first : c.field_length.result ≤ 65538 = rw c.field_length.ensures (length_bounded _ _ _) in
+    let last : c.field_length-2.result ≤ 65538 = rw c.field_length-2.ensures (length_bounded _ _ _) in
+    omega (arith, first, last)
 
 pub loop-entry-init : goal.loop-entry-init
 loop-entry-init c =

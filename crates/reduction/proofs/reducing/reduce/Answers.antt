@@ -1,5 +1,5 @@
 -- `reduce` passes the table's refusal on, and else writes the rows of the table.
-use Rattle.std.proofs.Common.{◌≡◌, sym, ◌∙◌}
+use Rattle.std.proofs.Common.{sym, ◌∙◌}
 use Rattle.std.proofs.lemmas.Result.{err_from_is_err_and}
 use Rattle.reduction.proofs.TableRows.{refused, as_table}
 use Rattle.reduction.proofs.reducing.reduce.Goals as goal

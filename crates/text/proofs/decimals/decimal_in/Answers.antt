@@ -1,5 +1,5 @@
 -- By the first byte: no byte, a 0 before others, or digits.
-use Rattle.std.proofs.Common.{◌≡◌, arith, sym}
+use Rattle.std.proofs.Common.{◌≡◌, arith, sym, rules, tests}
 use borrow.Author.Tests.{ltb-true, ltb-false}
 use Rattle.text.specs.Decimals.{digits_from, up_to, number_up_to}
 use Rattle.text.proofs.NumberLaws.{number_none, number_led, number_other, number_single}
@@ -10,7 +10,7 @@ pub returns-in-empty : goal.returns-in-empty
 returns-in-empty c = let a = c.args in sym (number_none a.most a.bytes.now (omega arith))
 
 pub returns-in-48 : goal.returns-in-48
-returns-in-48 c = let a = c.args in sym (number_led a.most a.bytes.now (omega arith) (omega arith))
+returns-in-48 c = let a = c.args in let none = number_led a.most a.bytes.now (omega arith) (omega arith) in search (rules, tests)
 
 pub returns-in_default : goal.returns-in_default
 returns-in_default c =
