@@ -16,7 +16,6 @@ use Rattle.question.specs.Questions.{terms_of}
 use Rattle.outcome.specs.Writes.{checked_over, over, checked_then}
 use Rattle.question.specs.Checks.{checked}
 use Rattle.theory.specs.Answers.{mask_bound}
-use Rattle.outcome.proofs.Never.{never}
 use Rattle.answer.specs.declared.answers.Answer.{Answer}
 use Rattle.outcome.specs.Writes.{Written}
 use Rattle.answer.specs.Answers.{said}

@@ -34,7 +34,7 @@ as_answer (some sol) = record { verdict = Possible; arrangement = padded max_ter
 abbrev pub impossible_answer : Answer
 impossible_answer = as_answer none
 
--- what stands beside a refusal. It says possible: who forgets to look at the refusal is not told "impossible"
+-- what a model that was found or read is filled into. It says possible: who takes it as it is, is not told "impossible"
 abbrev pub filler : Answer
 filler = record { verdict = Possible; arrangement = padded max_terms []; masks = padded max_terms [] }
 

@@ -23,7 +23,7 @@ impl Answer {
         + Question::MAX_TERMS
         + Question::MAX_TERMS * MASK_BYTES;
 
-    // An answer for who needs a value to start from. It says possible, so that nobody is told "impossible" by it. (Beside a refusal no value stands.)
+    // What a model that was found or read is filled into: it says possible, so that nobody is told "impossible" by it. (Beside a refusal no value stands.)
     pub fn filler() -> Answer
         ensures { result ≡ filler }
     {

@@ -7,7 +7,7 @@ use crate::answers::Answer;
 use crate::checks::{Asked, all_below, count_classes};
 use body::{MASK_BYTES, masks_in, numbers_in};
 use field::{Due, File, Frame, byte_at, frame_at};
-use outcome::{Refusal, Verdict};
+use outcome::Refusal;
 use question::{Question, check};
 
 // Field 7F at a place, and 9 at the first extra byte.
@@ -42,9 +42,9 @@ fn read_masks(
         return Err(Refusal::new(Refusal::BAD_MODEL, at));
     }
     let answer = Answer {
-        verdict: Verdict::Possible,
         arrangement: numbers,
         masks,
+        ..Answer::filler()
     };
     read_end(bytes, next, answer)
 }
@@ -84,6 +84,7 @@ fn read_file(asked: Asked, bytes: &[u8]) -> Result<Answer, Refusal>
 }
 
 // The answer of a file beside its question: the refusals of the table, then those of the file.
+#[tactic(auto, using(question::proofs::AcceptedLaws::accepted), unfolding(crate::specs::Reads::read_answer))]
 pub fn read_answer(q: Question, bytes: &[u8]) -> Result<Answer, Refusal>
     ensures { result ≡ read_answer q bytes.now }
 {

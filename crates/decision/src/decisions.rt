@@ -3,7 +3,7 @@ ghost use Rattle.std.specs.Prelude.{◌≡◌};
 ghost use Rattle.decision.specs.Decisions.{table_searched, shown, decided};
 
 use answer::Answer;
-use outcome::{Refusal, Verdict};
+use outcome::Refusal;
 use question::{Question, check, terms};
 use reduction::write_rows;
 use search::{Found, search};
@@ -19,9 +19,9 @@ fn show(found: Option<Found>) -> Answer
             let arrangement = model.arrangement;
             let masks = model.masks;
             Answer {
-                verdict: Verdict::Possible,
                 arrangement,
                 masks,
+                ..Answer::filler()
             }
         }
     }
