@@ -73,9 +73,9 @@ bytes_drop n bytes h i less =
     rw (get_or-drop n bytes i 0) (h (n + i) (omega arith))
 
 -- reading: one byte more, and the end
-pub number_next : (bytes : List ℕ) (i n : ℕ) → i < length bytes → number_from n (drop i bytes) ≡ number_from (n * 256 + get_or bytes i 0) (drop (i + 1) bytes)
+pub number_next : (bytes : List ℕ) (i n b : ℕ) → i < length bytes → b ≡ get_or bytes i 0 → number_from n (drop i bytes) ≡ number_from (n * 256 + b) (drop (i + 1) bytes)
 unfolding number_from
-number_next bytes i n h = rw (drop-cons bytes i 0 h, add-one i)
+number_next bytes i n b h e = rw (drop-cons bytes i 0 h, add-one i, e)
 
 pub number_end : (bytes : List ℕ) (i n : ℕ) → length bytes ≤ i → number_from n (drop i bytes) ≡ n
 unfolding number_from

@@ -1,8 +1,6 @@
 -- `read_masks` wants field 42, and masks below the bound in it, before it goes on to 7F.
 use Rattle.std.proofs.Common.{ℕ, ◌≡◌, ◌+◌, ◌-◌, ◌*◌, ◌≤◌, Bool, List, length, take, drop, sym, ap, ap₂, ◌∙◌, Ok, Err, arith, rules}
 use Rattle.std.proofs.lemmas.List.{length-drop}
-use Rattle.outcome.specs.declared.verdicts.Verdict.{Verdict}
-use Rattle.outcome.specs.declared.verdicts.Verdict.TheVariants.{Possible}
 use Rattle.outcome.specs.Padded.{padded}
 use Rattle.outcome.proofs.PaddedLaws.{take_padded}
 use Rattle.question.specs.Limits.{max_terms}
@@ -13,7 +11,6 @@ use Rattle.field.specs.Heads.{head_length}
 use Rattle.field.proofs.FrameLaws.{within, due_length}
 use Rattle.body.specs.Bodies.{mask_bytes, masks_in, masks_of}
 use Rattle.body.proofs.BodyLaws.{in_length, masks_part}
-use Rattle.answer.specs.declared.answers.Answer.{Answer}
 use Rattle.answer.specs.Checks.{all_below}
 use Rattle.answer.specs.Reads.{due_frame, end_read, masks_read}
 use Rattle.answer.proofs.SizeLaws.{masks_sized}
@@ -42,11 +39,6 @@ module _ (bytes : List ℕ) (at n : ℕ) (f : Frame) (e : due_frame 0x42 (n * ma
       let rest = drop (at + head_length) bytes in
       sym (b ∙ ap (λ l. all_below bound (take n l)) (r ∙ masks few) ∙ ap (all_below bound) (take_padded max_terms (masks_in mask_bytes n rest) n (in_length mask_bytes n rest)))
 
--- an answer that says possible, with other masks that are the same
-by_parts : (v : Verdict) (numbers masks others : List ℕ) → v ≡ Possible → masks ≡ others →
-    ◌≡◌ {A = Answer} (record { verdict = v; arrangement = numbers; masks = masks }) (record { verdict = Possible; arrangement = numbers; masks = others })
-by_parts v numbers masks others says same = ap₂ (λ x l. record { verdict = x; arrangement = numbers; masks = l }) says same
-
 pub returns-in_err-frame : goal.returns-in_err-frame
 unfolding masks_read
 returns-in_err-frame c = search rules
@@ -74,5 +66,5 @@ returns c =
     let low = tested a.bytes.now a.at a.classes _ e a.bound _ _ c.requires c.masks_in-masks.ensures c.all_below.ensures in
     let read = c.masks_in-masks.ensures ∙ masks a.bytes.now a.at a.classes _ e c.requires in
     c.read_end.ensures
-    ∙ ap (end_read a.bytes.now (a.at + head_length + c.in_ok-frame.frame.length)) (by_parts _ a.numbers _ _ (cc) read)
+    ∙ ap₂ (λ v l. end_read a.bytes.now (a.at + head_length + c.in_ok-frame.frame.length) (record { verdict = v; arrangement = a.numbers; masks = l })) (cc) read
     ∙ sym (masks_good a.bound a.bytes.now a.at a.numbers a.classes _ e (low ∙ c.if-not-all_below.false))

@@ -1,7 +1,7 @@
 -- The number of the first bytes, byte by byte.
-use Rattle.std.proofs.Common.{ℕ, ◌≡◌, ◌+◌, ◌*◌, ◌^◌, ◌<◌, ◌≤◌, List, length, get_or, take, drop, min, refl, sym, ap, ◌∙◌, arith}
+use Rattle.std.proofs.Common.{ℕ, ◌≡◌, ◌+◌, ◌*◌, ◌^◌, ◌<◌, ◌≤◌, List, length, take, min, refl, sym, ap, ◌∙◌, arith}
 use Rattle.std.proofs.lemmas.List.{length-take, take_min}
-use Rattle.number.specs.Numbers.{most_bytes, number_from, number_in}
+use Rattle.number.specs.Numbers.{most_bytes, number_in}
 use Rattle.number.proofs.NumberLaws.{number_next, number_end, room_for_byte}
 use Rattle.number.proofs.numbers.number_in.Goals as goal
 
@@ -11,10 +11,6 @@ few n bytes e = omega (arith, length-take n bytes)
 
 same : (n : ℕ) (bytes : List ℕ) → n ≡ min most_bytes (length bytes) → number_in (take n bytes) ≡ number_in (take most_bytes bytes)
 same n bytes e = ap (λ i. number_in (take i bytes)) e ∙ ap number_in (take_min most_bytes bytes)
-
--- one byte more
-next : (bytes : List ℕ) (i n b : ℕ) → i < length bytes → b ≡ get_or bytes i 0 → number_from n (drop i bytes) ≡ number_from (n * 256 + b) (drop (i + 1) bytes)
-next bytes i n b less e = rw e (number_next bytes i n less)
 
 -- there is room for the byte
 room : (c : goal.After-from) → let l = c.loop-byte in (l.n * 256 + c.from.result < 2 ^ 64) × (l.n * 256 + c.from.result < 256 ^ (l.byte-index + 1))
@@ -35,7 +31,7 @@ overflow_add-n c = omega (arith, (room c).0)
 pub loop-byte-preserved : goal.loop-byte-preserved
 loop-byte-preserved c =
     let l = c.loop-byte in
-    (omega arith, (room c).1, l.invariant.2 ∙ next _ l.byte-index l.n _ (omega arith) (grind arith))
+    (omega arith, (room c).1, l.invariant.2 ∙ number_next _ l.byte-index l.n _ (omega arith) (grind arith))
 
 pub returns : goal.returns
 returns c =
